@@ -1,0 +1,51 @@
+-- Laws of `chunks`, lists of one length s put one after another: the length, an element, a chunk cut out.
+-- Assumes nothing.
+use mathlib.Core.Path.{_≡_, refl, sym, ap, _∙_}
+use mathlib.Core.Logic.{⊎-elim}
+use mathlib.Core.List.{List, [], _∷_, _++_}
+use Prim.Native.Nat.{ℕ, zero, suc, _+_, _*_, _≤_, _<_}
+use native.Mathlib.Nat.{suc-mul, zero-mul, le-of-suc-le-suc, not-suc-le-zero, eq-or-lt-of-le, mul-le-mul-right, le-of-eq}
+use native.Mathlib.Numerals.{add-one}
+use native.Mathlib.Omega.{arith}
+use lib.ListN.{length, take, drop, getD, length-append, length-drop, List·getD-append}
+use lib.Seq.{getD-append-add, take-append-le, drop-append-le, drop-at, take-all}
+use Rattle.lists.specs.Tabulation.{chunks}
+
+pub chunks-more : (n : ℕ) (g : ℕ → List ℕ) → chunks (n + 1) g ≡ chunks n g ++ g n
+unfolding chunks
+chunks-more n g = rw add-one
+
+module _ (g : ℕ → List ℕ) (s : ℕ) (sized : (k : ℕ) → length (g k) ≡ s) where
+  pub length-chunks : (n : ℕ) → length (chunks n g) ≡ n * s
+  unfolding chunks
+  length-chunks zero = sym (zero-mul s)
+  length-chunks (suc n) = length-append (chunks n g) (g n) ∙ rw (length-chunks n, sized n) (sym (suc-mul n s))
+
+  -- element i of chunk k
+  pub getD-chunks : (n k i : ℕ) → k < n → i < s → getD (chunks n g) (k * s + i) 0 ≡ getD (g k) i 0
+  unfolding chunks
+  getD-chunks zero k i b b′ = absurd (not-suc-le-zero b)
+  getD-chunks (suc n) k i b b′ =
+      ⊎-elim
+      (λ (w : k ≡ n). rw (w, ← length-chunks n) (getD-append-add (chunks n g) (g n) i 0))
+      (λ (w : k < n).
+      let room : suc k * s ≤ n * s = mul-le-mul-right s w in
+      List·getD-append (chunks n g) (g n) 0 (k * s + i) (omega (arith, length-chunks n, suc-mul k s, room))
+      ∙ getD-chunks n k i w b′)
+      (eq-or-lt-of-le (le-of-suc-le-suc b))
+
+  -- chunk k, cut out
+  pub chunk-at : (n k : ℕ) → k < n → take s (drop (k * s) (chunks n g)) ≡ g k
+  unfolding chunks
+  chunk-at zero k b = absurd (not-suc-le-zero b)
+  chunk-at (suc n) k b =
+      ⊎-elim
+      (λ (w : k ≡ n). rw w (ap (take s) (drop-at (chunks n g) (g n) (n * s) (length-chunks n)) ∙ take-all s (g n) (le-of-eq (sized n))))
+      (λ (w : k < n).
+      let room : suc k * s ≤ n * s = mul-le-mul-right s w in
+      let whole : length (chunks n g) ≡ n * s = length-chunks n in
+      let e : suc k * s ≡ k * s + s = suc-mul k s in
+      ap (take s) (drop-append-le (k * s) (chunks n g) (g n) (omega arith))
+      ∙ take-append-le s (drop (k * s) (chunks n g)) (g n) (rw (length-drop (k * s) (chunks n g)) (omega arith))
+      ∙ chunk-at n k w)
+      (eq-or-lt-of-le (le-of-suc-le-suc b))

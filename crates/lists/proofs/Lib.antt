@@ -1,0 +1,7 @@
+pub mod TabulationLaws
+pub mod ChunkLaws
+pub mod PartLaws
+pub mod BlockLaws
+pub mod HalfByteLaws
+pub mod XorLaws
+pub mod RefusalLaws

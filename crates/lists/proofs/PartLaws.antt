@@ -1,0 +1,68 @@
+-- A buffer that a loop fills from the front: what is written so far, then what it held before. One law for each way
+-- in which one turn of a loop writes more: an element, a part that was lent, an element of an array that held z.
+-- Assumes nothing.
+use mathlib.Core.Path.{_≡_, refl, sym, ap, _∙_}
+use mathlib.Core.List.{List, [], _∷_, _++_, append-assoc, append-nil}
+use Prim.Native.Nat.{ℕ, zero, suc, _+_, _-_, _*_, _≤_, _<_}
+use native.Mathlib.Nat.{le-of-eq, add-sub-cancel-left}
+use native.Mathlib.Numerals.{add-one}
+use native.Mathlib.Omega.{arith}
+use lib.ListN.{length, take, drop, getD, set, replicate, length-drop, drop-of-length-le}
+use lib.Seq.{drop-cons, set-at, drop-drop, take-at, drop-at, length-take-le, append-snoc, take-suc, take-all}
+use Rattle.lists.specs.Tabulation.{tab, chunks}
+use Rattle.lists.proofs.TabulationLaws.{tab-more, length-tab}
+use Rattle.lists.proofs.ChunkLaws.{chunks-more, length-chunks}
+
+-- p is written and the rest of d is as it was: one element more
+pub grown : (p d : List ℕ) (n v : ℕ) → length p ≡ n → n < length d → set (p ++ drop n d) n v ≡ (p ++ (v ∷ [])) ++ drop (n + 1) d
+grown p d n v e h =
+    rw (add-one, drop-cons d n 0) (set-at p (getD d n 0) (drop (suc n) d) v n e ∙ sym (append-snoc p v (drop (suc n) d)))
+
+-- the part from n on was lent and came back as q and the rest
+pub grown-part : (p q d : List ℕ) (n m : ℕ) → length p ≡ n
+    → take n (p ++ drop n d) ++ (q ++ drop m (drop n (p ++ drop n d))) ≡ (p ++ q) ++ drop (n + m) d
+grown-part p q d n m e =
+    rw (take-at p (drop n d) n e, drop-at p (drop n d) n e, drop-drop m n d) (sym (append-assoc p q (drop (n + m) d)))
+
+-- the whole of d is written
+pub grown-whole : (p d : List ℕ) (n : ℕ) → length d ≤ n → p ++ drop n d ≡ p
+grown-whole p d n h = rw (drop-of-length-le d h) (append-nil p)
+
+-- a loop that fills by a rule: a turn, and the end
+pub tab-turn : (f : ℕ → ℕ) (d₀ d : List ℕ) (i v : ℕ) → d ≡ tab i f ++ drop i d₀ → v ≡ f i → i < length d₀
+    → set d i v ≡ tab (i + 1) f ++ drop (i + 1) d₀
+tab-turn f d₀ d i v e w h = rw (e, w, tab-more) (grown (tab i f) d₀ i (f i) (length-tab i f) h)
+
+pub tab-full : (f : ℕ → ℕ) (d₀ d : List ℕ) (n i : ℕ) → d ≡ tab i f ++ drop i d₀ → i ≡ n → length d₀ ≡ n → d ≡ tab n f
+tab-full f d₀ d n i e h l = e ∙ rw h (grown-whole (tab n f) d₀ n (le-of-eq l))
+
+-- a loop that lends the next s places, `&mut d[a..a + s]`, whose length the borrow checker writes `a + s - a`: a turn,
+-- the length of the part that is lent, and the end
+pub chunks-turn : (g : ℕ → List ℕ) (s : ℕ) → ((k : ℕ) → length (g k) ≡ s) → (d₀ d q : List ℕ) (k a : ℕ)
+    → d ≡ chunks k g ++ drop a d₀ → a ≡ k * s → q ≡ g k
+    → take a d ++ (q ++ drop (a + s - a) (drop a d)) ≡ chunks (k + 1) g ++ drop (a + s) d₀
+chunks-turn g s h d₀ d q k a e w v =
+    rw (add-sub-cancel-left a s, e, v, chunks-more) (grown-part (chunks k g) (g k) d₀ a s (length-chunks g s h k ∙ sym w))
+
+pub length-part : (d : List ℕ) (a s : ℕ) → a + s ≤ length d → length (take (a + s - a) (drop a d)) ≡ s
+length-part d a s h = rw (add-sub-cancel-left a s) (length-take-le s (drop a d) (rw (length-drop a d) (omega arith)))
+
+pub chunks-full : (g : ℕ → List ℕ) (d₀ d : List ℕ) (n k a : ℕ) → d ≡ chunks k g ++ drop a d₀ → k ≡ n → length d₀ ≤ a → d ≡ chunks n g
+chunks-full g d₀ d n k a e h l = e ∙ rw h (grown-whole (chunks n g) d₀ a l)
+
+-- an array of n that held z everywhere, of any elements
+pub fill-more : {A : Type 0} (n i : ℕ) (z v : A) (p : List A) → length p ≡ i → i < n
+    → set (p ++ replicate (n - i) z) i v ≡ (p ++ (v ∷ [])) ++ replicate (n - (i + 1)) z
+fill-more n i z v p e h =
+    let k : n - i ≡ suc (n - (i + 1)) = omega arith in
+    rw k (set-at p z (replicate (n - (i + 1)) z) v i e ∙ sym (append-snoc p v (replicate (n - (i + 1)) z)))
+
+-- a loop that fills such an array by a rule: a turn, and the end
+pub fill-turn : (f : ℕ → ℕ) (n : ℕ) (d : List ℕ) (i v : ℕ) → d ≡ tab i f ++ replicate (n - i) 0 → v ≡ f i → i < n
+    → set d i v ≡ tab (i + 1) f ++ replicate (n - (i + 1)) 0
+fill-turn f n d i v e w h = rw (e, w, tab-more) (fill-more n i 0 (f i) (tab i f) (length-tab i f) h)
+
+pub fill-full : (f : ℕ → ℕ) (n : ℕ) (d : List ℕ) (i : ℕ) → d ≡ tab i f ++ replicate (n - i) 0 → i ≡ n → d ≡ tab n f
+fill-full f n d i e h =
+    let k : n - i ≡ 0 = omega arith in
+    e ∙ rw (k, append-nil, h)

@@ -1,0 +1,38 @@
+-- Bytes, and blocks of 16 of them.
+-- Assumes nothing.
+use mathlib.Core.Path.{_≡_}
+use mathlib.Core.List.{List, [], _∷_}
+use Prim.Native.Nat.{ℕ, zero, suc, _/_, _<_}
+use lib.ListN.{length, getD, take, drop, replicate}
+use lib.Bits.{bitXor}
+use Rattle.lists.specs.Tabulation.{tab}
+
+-- every number of l is below b; past its end `getD` gives 0, so the index has no bound
+abbrev pub Below : ℕ → List ℕ → Type 0
+Below b l = (k : ℕ) → getD l k 0 < b
+
+-- every number of l is a byte
+abbrev pub Bytes : List ℕ → Type 0
+Bytes l = Below 256 l
+
+-- 16 bytes
+pub record Block (b : List ℕ) : Type 0 where
+  pub size : length b ≡ 16
+  pub bytes : Bytes b
+
+-- sixteen zero bytes
+abbrev pub zeros : List ℕ
+zeros = replicate 16 0
+
+-- the xor of two blocks, byte by byte
+unfoldable pub xorBlock : List ℕ → List ℕ → List ℕ
+xorBlock a b = tab 16 (λ k. bitXor (getD a k 0) (getD b k 0))
+
+-- the first n blocks of l
+unfoldable pub cut : ℕ → List ℕ → List (List ℕ)
+cut zero l = []
+cut (suc n) l = take 16 l ∷ cut n (drop 16 l)
+
+-- the whole blocks of l, in order
+unfoldable pub blocks : List ℕ → List (List ℕ)
+blocks l = cut (length l / 16) l

@@ -1,0 +1,4 @@
+pub mod Tabulation
+pub mod Blocks
+pub mod HalfBytes
+pub mod Refusals
