@@ -1,0 +1,82 @@
+-- The answers of the operations on a key and a block, case by case. The cases exclude each other and leave none out, so
+-- each refusal is given exactly under its condition.
+-- Assumes nothing.
+use mathlib.Core.Path.{_≡_, refl, sym, ap, ap₂, _∙_}
+use mathlib.Core.Bool.{Bool, true, false, cond, not, _||_}
+use mathlib.Core.List.{List, [], _∷_, _++_}
+use Prim.Native.Nat.{ℕ, _≤_, _<_}
+use native.Mathlib.Omega.{arith}
+use borrow.Author.Tests.{eq-eqb, ne-eqb, le-leb, lt-leb}
+use lib.Dec.{eqb, leb}
+use lib.ListN.{length}
+use Rattle.lists.specs.Blocks.{zeros}
+use Rattle.lists.specs.Refusals.{first}
+use Rattle.lists.proofs.RefusalLaws.{first-hit, first-pass}
+use Rattle.cipher.specs.KeySize.{keyLength, sizeBy, sizeOfKey}
+use Rattle.cipher.specs.Answers.{keyTests, blockTests, keySize, onBlock}
+use Rattle.cipher.specs.declared.size.KeySize.{KeySize}
+use Rattle.cipher.specs.declared.size.KeySize.the-variants.{Bytes16, Bytes24, Bytes32}
+use Rattle.cipher.specs.declared.size.SizeFound.{SizeFound}
+use Rattle.cipher.specs.declared.size.SizeFound.the-variants.{Found, Unknown}
+use Rattle.cipher.proofs.KeySizeLaws.{found-length}
+
+-- the lesser of n and r, as `roundsAnswer` has it
+pub at-most : (n r : ℕ) → n ≤ r → cond (leb n r) n r ≡ n
+at-most n r h = rw (le-leb n r h)
+
+pub at-most-all : (n r : ℕ) → r < n → cond (leb n r) n r ≡ r
+at-most-all n r h = rw (lt-leb n r h)
+
+-- refusal 1
+abbrev badKey : ℕ → Bool
+badKey n = not (eqb n 16 || eqb n 24 || eqb n 32)
+
+bad-key : (n : ℕ) → sizeOfKey n ≡ Unknown → badKey n ≡ true
+unfolding sizeBy
+bad-key n = go (eqb n 16) (eqb n 24) (eqb n 32)
+  where
+    go : (a b c : Bool) → cond a (Found Bytes16) (cond b (Found Bytes24) (cond c (Found Bytes32) Unknown)) ≡ Unknown → not (a || b || c) ≡ true
+    go false false false e = refl
+    go true b c e = let w : _≡_ {A = ℕ} 0 1 = cc in absurd (omega arith)
+    go false true c e = let w : _≡_ {A = ℕ} 0 1 = cc in absurd (omega arith)
+    go false false true e = let w : _≡_ {A = ℕ} 0 1 = cc in absurd (omega arith)
+
+good-key : (n : ℕ) (z : KeySize) → n ≡ keyLength z → badKey n ≡ false
+good-key n Bytes16 e = rw e
+good-key n Bytes24 e = rw e
+good-key n Bytes32 e = rw e
+
+size-is : (key : List ℕ) (z : KeySize) → length key ≡ keyLength z → keySize key ≡ z
+unfolding keySize
+size-is key Bytes16 e = rw e
+size-is key Bytes24 e = rw e
+size-is key Bytes32 e = rw e
+
+-- the tests on a key, and then those of `ts`
+module _ {A : Type 0} (key : List ℕ) (ts : List (Bool × ℕ)) (refuse : ℕ → A) (go : KeySize → A) where
+  pub key-refused : sizeOfKey (length key) ≡ Unknown → first (keyTests key ++ ts) refuse (go (keySize key)) ≡ refuse 1
+  key-refused e = first-hit (badKey (length key)) 1 ts refuse (go (keySize key)) (bad-key (length key) e)
+
+  pub key-taken : (z : KeySize) → sizeOfKey (length key) ≡ Found z → first (keyTests key ++ ts) refuse (go (keySize key)) ≡ first ts refuse (go z)
+  key-taken z e =
+      let l = found-length keyLength (length key) z e in
+      first-pass (badKey (length key)) 1 ts refuse (go (keySize key)) (good-key (length key) z l)
+      ∙ ap (λ (y : KeySize). first ts refuse (go y)) (size-is key z l)
+
+module _ (key b : List ℕ) (f : KeySize → List ℕ) where
+  pub on-key : sizeOfKey (length key) ≡ Unknown → onBlock key b f ≡ (1, zeros)
+  unfolding onBlock
+  on-key e = key-refused key (blockTests b) (λ n. (n, zeros)) (λ z. (0, f z)) e
+
+  module _ (z : KeySize) (e : sizeOfKey (length key) ≡ Found z) where
+    pub on-length : (length b ≡ 16 → ⊥) → onBlock key b f ≡ (7, zeros)
+    unfolding onBlock
+    on-length h =
+        key-taken key (blockTests b) (λ n. (n, zeros)) (λ z. (0, f z)) z e
+        ∙ first-hit (not (eqb (length b) 16)) 7 [] (λ n. (n, zeros)) (0, f z) (ap not (ne-eqb (length b) 16 h))
+
+    pub on-done : length b ≡ 16 → onBlock key b f ≡ (0, f z)
+    unfolding onBlock first
+    on-done h =
+        key-taken key (blockTests b) (λ n. (n, zeros)) (λ z. (0, f z)) z e
+        ∙ first-pass (not (eqb (length b) 16)) 7 [] (λ n. (n, zeros)) (0, f z) (ap not (eq-eqb (length b) 16 h))

@@ -1,0 +1,154 @@
+-- Laws of the key schedule: one step more of a loop that fills the rows, and that every round key is a word.
+-- Assumes nothing.
+use mathlib.Core.Path.{_≡_, refl, sym, ap, _∙_}
+use Prim.Native.Nat.{ℕ, zero, suc, _+_, _-_, _*_, _%_, _^_, _≤_, _<_}
+use native.Mathlib.Omega.{arith}
+use native.Mathlib.Numerals.{add-one}
+use mathlib.Core.List.{List, [], _∷_, _++_}
+use lib.Dec.{lit<}
+use lib.ListN.{getD, length, set, replicate, length-append}
+use Rattle.lists.specs.Blocks.{Below, Bytes}
+use Rattle.lists.proofs.PartLaws.{fill-more}
+use Rattle.cipher.specs.Word.{add, turnLeft, word, wordAt}
+use Rattle.cipher.specs.Schedule.{turns, mixed, step16, row16, step24, row24, place, mixAt, step32, row32, words4, words6, words8, stepped, rowsOf, blank, filled, schedule}
+use Rattle.cipher.specs.KeySize.{rounds}
+use Rattle.cipher.specs.declared.size.KeySize.{KeySize}
+use Rattle.cipher.specs.declared.size.KeySize.the-variants.{Bytes16, Bytes24, Bytes32}
+use Rattle.cipher.proofs.WordLaws.{left-word, add-word}
+
+-- ---- one turn of the loop
+
+module _ (step row : ℕ → List ℕ → List ℕ) where
+  pub stepped-more : (i : ℕ) (t : List ℕ) → stepped step (i + 1) t ≡ step i (stepped step i t)
+  unfolding stepped
+  stepped-more i t = rw add-one
+
+  rows-length : (n : ℕ) (t : List ℕ) → length (rowsOf step row n t) ≡ n
+  unfolding rowsOf
+  rows-length zero t = refl
+  rows-length (suc n) t = length-append (rowsOf step row n t) _ ∙ add-one _ ∙ ap suc (rows-length n t)
+
+  -- the row of step i stored at place i of the first i rows
+  pub rows-more : (i : ℕ) (t : List ℕ) → i < 32 → set (filled step row i t) i (row i (stepped step (i + 1) t)) ≡ filled step row (i + 1) t
+  unfolding rowsOf
+  rows-more i t h =
+      fill-more 32 i blank (row i (stepped step (i + 1) t)) (rowsOf step row i t) (rows-length i t) h
+      ∙ rw add-one
+
+-- ---- every round key is a word
+
+-- a list of words, and rows of them
+data Words : List ℕ → Type 0 where
+  none : Words []
+  more : {x : ℕ} {l : List ℕ} → x < 2 ^ 32 → Words l → Words (x ∷ l)
+
+data Rows : List (List ℕ) → Type 0 where
+  none : Rows []
+  more : {x : List ℕ} {l : List (List ℕ)} → Words x → Rows l → Rows (x ∷ l)
+
+-- every word of every row is below 2 ^ 32; past the ends `getD` gives 0
+abbrev pub RowsOfWords : List (List ℕ) → Type 0
+RowsOfWords rows = (l : ℕ) → Below (2 ^ 32) (getD rows l [])
+
+below : {l : List ℕ} → Words l → Below (2 ^ 32) l
+below none k = lit< tt
+below (more h t) zero = h
+below (more h t) (suc k) = below t k
+
+rows-below : {l : List (List ℕ)} → Rows l → RowsOfWords l
+rows-below none k i = lit< tt
+rows-below (more h t) zero i = below h i
+rows-below (more h t) (suc k) i = rows-below t k i
+
+joined : {l r : List ℕ} → Words l → Words r → Words (l ++ r)
+joined none t = t
+joined (more h s) t = more h (joined s t)
+
+rows-joined : {l r : List (List ℕ)} → Rows l → Rows r → Rows (l ++ r)
+rows-joined none t = t
+rows-joined (more h s) t = more h (rows-joined s t)
+
+stored : {l : List ℕ} → (i v : ℕ) → v < 2 ^ 32 → Words l → Words (set l i v)
+stored i v h none = none
+stored zero v h (more x t) = more h t
+stored (suc i) v h (more x t) = more x (stored i v h t)
+
+same : (n : ℕ) → Words (replicate n 0)
+same zero = none
+same (suc n) = more (lit< tt) (same n)
+
+rows-same : (n : ℕ) → Rows (replicate n blank)
+rows-same zero = none
+rows-same (suc n) = more (same 6) (rows-same n)
+
+pub wordAt-word : (b : List ℕ) (i : ℕ) → Bytes b → wordAt b i < 2 ^ 32
+unfolding wordAt word
+wordAt-word b i h = omega (arith, h i, h (i + 1), h (i + 2), h (i + 3))
+
+mixed-word : (n i m t : ℕ) → mixed n i m t < 2 ^ 32
+unfolding mixed
+mixed-word n i m t = left-word (getD turns m 0 % 32) _ (omega arith) (add-word t _)
+
+words4-words : (b : List ℕ) → Bytes b → Words (words4 b)
+unfolding words4
+words4-words b h = more (wordAt-word b 0 h) (more (wordAt-word b 4 h) (more (wordAt-word b 8 h) (more (wordAt-word b 12 h) none)))
+
+words6-words : (b : List ℕ) → Bytes b → Words (words6 b)
+unfolding words6
+words6-words b h = joined (words4-words b h) (more (wordAt-word b 16 h) (more (wordAt-word b 20 h) none))
+
+words8-words : (b : List ℕ) → Bytes b → Words (words8 b)
+unfolding words8
+words8-words b h =
+    joined (words4-words b h)
+    (more (wordAt-word b 16 h) (more (wordAt-word b 20 h) (more (wordAt-word b 24 h) (more (wordAt-word b 28 h) none))))
+
+step16-words : (i : ℕ) (t : List ℕ) → Words t → Words (step16 i t)
+unfolding step16
+step16-words i t h = more (mixed-word 4 i 0 _) (more (mixed-word 4 i 1 _) (more (mixed-word 4 i 2 _) (more (mixed-word 4 i 3 _) none)))
+
+row16-words : (i : ℕ) (t : List ℕ) → Words t → Words (row16 i t)
+unfolding row16
+row16-words i t h = more (below h 0) (more (below h 1) (more (below h 2) (more (below h 1) (more (below h 3) (more (below h 1) none)))))
+
+step24-words : (i : ℕ) (t : List ℕ) → Words t → Words (step24 i t)
+unfolding step24
+step24-words i t h =
+    more (mixed-word 6 i 0 _)
+    (more (mixed-word 6 i 1 _)
+    (more (mixed-word 6 i 2 _) (more (mixed-word 6 i 3 _) (more (mixed-word 6 i 4 _) (more (mixed-word 6 i 5 _) none)))))
+
+mixAt-words : (i m : ℕ) (t : List ℕ) → Words t → Words (mixAt i m t)
+unfolding mixAt
+mixAt-words i m t h = stored (place i m) _ (mixed-word 8 i m _) h
+
+step32-words : (i : ℕ) (t : List ℕ) → Words t → Words (step32 i t)
+unfolding step32
+step32-words i t h =
+    mixAt-words i 5 _ (mixAt-words i 4 _ (mixAt-words i 3 _ (mixAt-words i 2 _ (mixAt-words i 1 _ (mixAt-words i 0 t h)))))
+
+row32-words : (i : ℕ) (t : List ℕ) → Words t → Words (row32 i t)
+unfolding row32
+row32-words i t h =
+    more (below h (place i 0)) (more (below h (place i 1)) (more (below h (place i 2)) (more (below h (place i 3)) (more (below h (place i 4)) (more (below h (place i 5)) none)))))
+
+module _ (step row : ℕ → List ℕ → List ℕ) (hs : (i : ℕ) (t : List ℕ) → Words t → Words (step i t))
+    (hr : (i : ℕ) (t : List ℕ) → Words t → Words (row i t)) (t : List ℕ) (ht : Words t) where
+  stepped-words : (i : ℕ) → Words (stepped step i t)
+  unfolding stepped
+  stepped-words zero = ht
+  stepped-words (suc i) = hs i _ (stepped-words i)
+
+  rowsOf-words : (n : ℕ) → Rows (rowsOf step row n t)
+  unfolding rowsOf
+  rowsOf-words zero = none
+  rowsOf-words (suc n) = rows-joined (rowsOf-words n) (more (hr n _ (stepped-words (suc n))) none)
+
+  filled-words : (n : ℕ) → RowsOfWords (filled step row n t)
+  filled-words n = rows-below (rows-joined (rowsOf-words n) (rows-same (32 - n)))
+
+pub schedule-words : (z : KeySize) (key : List ℕ) → Bytes key → RowsOfWords (schedule z key)
+unfolding schedule
+schedule-words Bytes16 key h = filled-words step16 row16 step16-words row16-words (words4 key) (words4-words key h) 24
+schedule-words Bytes24 key h = filled-words step24 row24 step24-words (λ i t w. w) (words6 key) (words6-words key h) 28
+schedule-words Bytes32 key h = filled-words step32 row32 step32-words row32-words (words8 key) (words8-words key h) 32

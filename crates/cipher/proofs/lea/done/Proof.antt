@@ -1,0 +1,12 @@
+use mathlib.Core.Path.{ap}
+use mathlib.Core.List.{List}
+use Prim.Native.Nat.{ℕ}
+use borrow.Author.Needs.{needs}
+use Rattle.cipher.proofs.lea.done.Statement.{statement}
+use Rattle.cipher.proofs.lea.done.Tie as tie
+
+returns : tie.Need-returns
+returns c = ap (λ (b : List ℕ). (0, b)) (c .bytes .ensures)
+
+pub done-spec : {M : Type 1} → statement M
+done-spec = tie.close (tie.spec (λ c κs. search needs) returns)

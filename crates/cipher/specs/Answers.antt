@@ -1,0 +1,55 @@
+-- What the operations on a key and a block answer: the number of a refusal and zeros, or 0 and what was asked for.
+-- Assumes nothing.
+use mathlib.Core.Bool.{Bool, cond, not, _||_}
+use mathlib.Core.List.{List, [], _∷_, _++_}
+use Prim.Native.Nat.{ℕ, _%_}
+use lib.Dec.{eqb, leb}
+use lib.ListN.{length, getD}
+use Rattle.lists.specs.Blocks.{zeros}
+use Rattle.lists.specs.Refusals.{first}
+use Rattle.cipher.specs.KeySize.{rounds, sizeOfKey}
+use Rattle.cipher.specs.Refusal.{outcomeOf}
+use Rattle.cipher.specs.Schedule.{schedule, blank}
+use Rattle.cipher.specs.Lea.{firstRounds, encipher, decipher}
+use Rattle.cipher.specs.declared.size.KeySize.{KeySize}
+use Rattle.cipher.specs.declared.size.KeySize.the-variants.{Bytes16, Bytes24, Bytes32}
+use Rattle.cipher.specs.declared.size.SizeFound.{SizeFound}
+use Rattle.cipher.specs.declared.size.SizeFound.the-variants.{Found, Unknown}
+use Rattle.cipher.specs.declared.lea.BlockAnswer.{BlockAnswer}
+use Rattle.cipher.specs.declared.lea.RowAnswer.{RowAnswer}
+
+-- an answer as a number and a value
+abbrev pub blockTold : BlockAnswer → ℕ × List ℕ
+blockTold a = (outcomeOf (a .outcome), a .block)
+
+abbrev pub rowTold : RowAnswer → ℕ × List ℕ
+rowTold a = (outcomeOf (a .outcome), a .row)
+
+-- refusal 1: a key of no known size. Refusal 7: a block that is not of 16 bytes
+abbrev pub keyTests : List ℕ → List (Bool × ℕ)
+keyTests key = (not (eqb (length key) 16 || eqb (length key) 24 || eqb (length key) 32), 1) ∷ []
+
+abbrev pub blockTests : List ℕ → List (Bool × ℕ)
+blockTests b = (not (eqb (length b) 16), 7) ∷ []
+
+-- the size of a key that is not refused
+unfoldable pub keySize : List ℕ → KeySize
+keySize key = cond (eqb (length key) 16) Bytes16 (cond (eqb (length key) 24) Bytes24 Bytes32)
+
+-- what `f` makes of a block, where key and block are not refused
+unfoldable pub onBlock : List ℕ → List ℕ → (KeySize → List ℕ) → ℕ × List ℕ
+onBlock key b f = first (keyTests key ++ blockTests b) (λ n. (n, zeros)) (0, f (keySize key))
+
+abbrev pub encipherAnswer : List ℕ → List ℕ → ℕ × List ℕ
+encipherAnswer key b = onBlock key b (λ z. encipher z key b)
+
+abbrev pub decipherAnswer : List ℕ → List ℕ → ℕ × List ℕ
+decipherAnswer key b = onBlock key b (λ z. decipher z key b)
+
+-- the first n rounds of LEA, all of them where n is more
+abbrev pub roundsAnswer : List ℕ → ℕ → List ℕ → ℕ × List ℕ
+roundsAnswer key n b = onBlock key b (λ z. firstRounds (schedule z key) (cond (leb n (rounds z)) n (rounds z)) b)
+
+-- the round keys of round l, counted round
+abbrev pub rowAnswer : List ℕ → ℕ → ℕ × List ℕ
+rowAnswer key l = first (keyTests key) (λ n. (n, blank)) (0, getD (schedule (keySize key) key) (l % rounds (keySize key)) [])

@@ -1,0 +1,7 @@
+pub mod KeySize
+pub mod Refusal
+pub mod Word
+pub mod Schedule
+pub mod Lea
+pub mod Cmac
+pub mod Answers

@@ -1,0 +1,27 @@
+-- The numbers of document 01's refusals ("Refusals from the input" and "Refusals from the state").
+-- Assumes nothing.
+use Prim.Native.Nat.{ℕ}
+use Rattle.cipher.specs.declared.refusal.Refusal.{Refusal}
+use Rattle.cipher.specs.declared.refusal.Refusal.the-variants.{KeyLength, ChainLength, NoPermutation, WordRule, MaskByte, BookLength, BlockLength, MessageLength, ShortBuffer, KindByte, BadPadding, SessionFinished, SessionFull}
+use Rattle.cipher.specs.declared.refusal.Outcome.{Outcome}
+use Rattle.cipher.specs.declared.refusal.Outcome.the-variants.{Done, Refused}
+
+abbrev pub numberOf : Refusal → ℕ
+numberOf KeyLength = 1
+numberOf ChainLength = 2
+numberOf NoPermutation = 3
+numberOf WordRule = 4
+numberOf MaskByte = 5
+numberOf BookLength = 6
+numberOf BlockLength = 7
+numberOf MessageLength = 8
+numberOf ShortBuffer = 9
+numberOf KindByte = 10
+numberOf BadPadding = 11
+numberOf SessionFinished = 21
+numberOf SessionFull = 22
+
+-- an outcome as a number: 0 where the operation was done
+abbrev pub outcomeOf : Outcome → ℕ
+outcomeOf Done = 0
+outcomeOf (Refused q) = numberOf q

@@ -1,0 +1,110 @@
+// The operations on a key and a block. Each refuses a key of no known size (1), then a block that is
+// not of 16 bytes (7).
+ghost use mathlib.Core.Path.{_≡_};
+ghost use Rattle.lists.specs.Blocks.{zeros};
+ghost use Rattle.cipher.specs.Refusal.{numberOf};
+ghost use Rattle.cipher.specs.Lea as L;
+ghost use Rattle.cipher.specs.Answers.{blockTold, rowTold, encipherAnswer, decipherAnswer, roundsAnswer, rowAnswer};
+use crate::refusal::Outcome;
+use crate::refusal::Refusal;
+use crate::rows;
+use crate::schedule::schedule;
+use crate::size::KeySize;
+use crate::size::SizeFound;
+use crate::word::bytes;
+use crate::word::words;
+
+// A block, or the refusal and zeros.
+pub struct BlockAnswer {
+    pub outcome: Outcome,
+    pub block: [u8; 16],
+}
+
+// A row of round keys, or the refusal and zeros.
+pub struct RowAnswer {
+    pub outcome: Outcome,
+    pub row: [u32; 6],
+}
+
+fn refused(why: Refusal) -> BlockAnswer
+    ensures { λ r. ⌜ blockTold r ≡ (numberOf why, zeros) ⌝ }
+{
+    BlockAnswer {
+        outcome: Outcome::Refused(why),
+        block: [0u8; 16],
+    }
+}
+
+fn done(x: [u32; 4]) -> BlockAnswer
+    ensures { λ r. ⌜ blockTold r ≡ (0, L.bytes x) ⌝ }
+{
+    let block = bytes(x);
+    BlockAnswer {
+        outcome: Outcome::Done,
+        block,
+    }
+}
+
+// A block enciphered under a key.
+pub fn encipher(key: &[u8], block: &[u8]) -> BlockAnswer
+    ensures { λ r. ⌜ blockTold r ≡ encipherAnswer (now (key .entry)) (now (block .entry)) ⌝ }
+{
+    let SizeFound::Found(size) = KeySize::of_key_len(key.len()) else {
+        return refused(Refusal::KeyLength);
+    };
+    if block.len() != 16 {
+        return refused(Refusal::BlockLength);
+    }
+    let rows = schedule(size, key);
+    done(rows::encipher(rows, size, words(block)))
+}
+
+// A block deciphered under a key.
+pub fn decipher(key: &[u8], block: &[u8]) -> BlockAnswer
+    ensures { λ r. ⌜ blockTold r ≡ decipherAnswer (now (key .entry)) (now (block .entry)) ⌝ }
+{
+    let SizeFound::Found(size) = KeySize::of_key_len(key.len()) else {
+        return refused(Refusal::KeyLength);
+    };
+    if block.len() != 16 {
+        return refused(Refusal::BlockLength);
+    }
+    let rows = schedule(size, key);
+    done(rows::decipher(rows, size, words(block)))
+}
+
+// A block after the first n rounds under a key, all of them where n is more.
+pub fn first_rounds(key: &[u8], n: usize, block: &[u8]) -> BlockAnswer
+    ensures { λ r. ⌜ blockTold r ≡ roundsAnswer (now (key .entry)) n (now (block .entry)) ⌝ }
+{
+    let SizeFound::Found(size) = KeySize::of_key_len(key.len()) else {
+        return refused(Refusal::KeyLength);
+    };
+    if block.len() != 16 {
+        return refused(Refusal::BlockLength);
+    }
+    let rows = schedule(size, key);
+    let all = size.rounds();
+    if n <= all {
+        return done(rows::first_rounds(rows, n, words(block)));
+    }
+    done(rows::encipher(rows, size, words(block)))
+}
+
+// The round keys of round l of a key, l taken mod its rounds.
+pub fn round_keys(key: &[u8], l: usize) -> RowAnswer
+    ensures { λ r. ⌜ rowTold r ≡ rowAnswer (now (key .entry)) l ⌝ }
+{
+    let SizeFound::Found(size) = KeySize::of_key_len(key.len()) else {
+        return RowAnswer {
+            outcome: Outcome::Refused(Refusal::KeyLength),
+            row: [0u32; 6],
+        };
+    };
+    let rows = schedule(size, key);
+    let row = rows[l % size.rounds()];
+    RowAnswer {
+        outcome: Outcome::Done,
+        row,
+    }
+}

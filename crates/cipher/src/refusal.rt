@@ -1,0 +1,59 @@
+// What an operation refuses, by the numbers of document 01.
+ghost use mathlib.Core.Path.{_≡_};
+ghost use Rattle.cipher.specs.Refusal.{numberOf, outcomeOf};
+
+pub enum Refusal {
+    KeyLength,
+    ChainLength,
+    NoPermutation,
+    WordRule,
+    MaskByte,
+    BookLength,
+    BlockLength,
+    MessageLength,
+    ShortBuffer,
+    KindByte,
+    BadPadding,
+    SessionFinished,
+    SessionFull,
+}
+
+// The outcome of an operation that gives nothing else.
+pub enum Outcome {
+    Done,
+    Refused(Refusal),
+}
+
+impl Refusal {
+    pub fn number(self) -> u32
+        ensures { λ r. ⌜ r ≡ numberOf self ⌝ }
+    {
+        match self {
+            Refusal::KeyLength => 1,
+            Refusal::ChainLength => 2,
+            Refusal::NoPermutation => 3,
+            Refusal::WordRule => 4,
+            Refusal::MaskByte => 5,
+            Refusal::BookLength => 6,
+            Refusal::BlockLength => 7,
+            Refusal::MessageLength => 8,
+            Refusal::ShortBuffer => 9,
+            Refusal::KindByte => 10,
+            Refusal::BadPadding => 11,
+            Refusal::SessionFinished => 21,
+            Refusal::SessionFull => 22,
+        }
+    }
+}
+
+impl Outcome {
+    // 0 where the operation was done, else the refusal's number.
+    pub fn number(self) -> u32
+        ensures { λ r. ⌜ r ≡ outcomeOf self ⌝ }
+    {
+        match self {
+            Outcome::Done => 0,
+            Outcome::Refused(why) => why.number(),
+        }
+    }
+}

@@ -1,0 +1,70 @@
+// 32-bit words: rotations, and the four bytes of a word, lowest first.
+ghost use mathlib.Core.Path.{_≡_};
+ghost use Prim.Native.Nat.{_+_, _*_, _≤_};
+ghost use lib.ListN.{length};
+ghost use Rattle.cipher.specs.Word as W;
+ghost use Rattle.cipher.specs.Schedule.{words4};
+ghost use Rattle.cipher.specs.Lea as L;
+
+// x turned left by n, a count taken mod 32.
+pub fn rotate_left(x: u32, n: usize) -> u32
+    ensures { λ r. ⌜ r ≡ W.rol n x ⌝ }
+{
+    let k = n % 32;
+    (x << k) | (x >> ((32 - k) % 32))
+}
+
+// x turned right by n, a count taken mod 32.
+pub fn rotate_right(x: u32, n: usize) -> u32
+    ensures { λ r. ⌜ r ≡ W.ror n x ⌝ }
+{
+    let k = n % 32;
+    (x >> k) | (x << ((32 - k) % 32))
+}
+
+// The word of four bytes.
+fn word(a: u8, b: u8, c: u8, d: u8) -> u32
+    ensures { λ r. ⌜ r ≡ W.word a b c d ⌝ }
+{
+    (a as u32) + 256 * (b as u32) + 65536 * (c as u32) + 16777216 * (d as u32)
+}
+
+// The word at byte i of s.
+pub fn word_at(s: &[u8], i: usize) -> u32
+    requires { ⌜ i + 4 ≤ length (now s) ⌝ }
+    ensures { λ r. ⌜ r ≡ W.wordAt (now (s .entry)) i ⌝ }
+{
+    word(s[i], s[i + 1], s[i + 2], s[i + 3])
+}
+
+// The four words of the 16 bytes of s.
+pub fn words(s: &[u8]) -> [u32; 4]
+    requires { ⌜ 16 ≤ length (now s) ⌝ }
+    ensures { λ r. ⌜ r ≡ words4 (now (s .entry)) ⌝ }
+{
+    [word_at(s, 0), word_at(s, 4), word_at(s, 8), word_at(s, 12)]
+}
+
+// The bytes of four words.
+pub fn bytes(x: [u32; 4]) -> [u8; 16]
+    ensures { λ r. ⌜ r ≡ L.bytes x ⌝ }
+{
+    [
+        (x[0] % 256) as u8,
+        (x[0] / 256 % 256) as u8,
+        (x[0] / 65536 % 256) as u8,
+        (x[0] / 16777216 % 256) as u8,
+        (x[1] % 256) as u8,
+        (x[1] / 256 % 256) as u8,
+        (x[1] / 65536 % 256) as u8,
+        (x[1] / 16777216 % 256) as u8,
+        (x[2] % 256) as u8,
+        (x[2] / 256 % 256) as u8,
+        (x[2] / 65536 % 256) as u8,
+        (x[2] / 16777216 % 256) as u8,
+        (x[3] % 256) as u8,
+        (x[3] / 256 % 256) as u8,
+        (x[3] / 65536 % 256) as u8,
+        (x[3] / 16777216 % 256) as u8,
+    ]
+}
