@@ -1,4 +1,4 @@
--- Laws of doubling.
+-- Laws of doubling, by the cases of the code.
 -- Assumes nothing.
 use mathlib.Core.Path.{_≡_, refl, sym, ap, _∙_}
 use Prim.Native.Nat.{ℕ, zero, suc, _+_, _*_, _≤_, _<_}

@@ -9,7 +9,7 @@ use mathlib.Core.List.{List, [], _∷_, _++_}
 use lib.Dec.{lit<}
 use lib.ListN.{getD, length}
 use Rattle.lists.specs.Tabulation.{tab}
-use Rattle.lists.specs.Blocks.{Below, Bytes, Block}
+use Rattle.lists.specs.Blocks.{Below, Bytes, Block, zeros}
 use Rattle.lists.proofs.TabulationLaws.{tab-is}
 use Rattle.cipher.specs.Word.{add, sub, xor, turnLeft, turnRight, word, bytesOf, wordAt}
 use Rattle.cipher.specs.KeySize.{rounds}
@@ -134,6 +134,11 @@ bytes-words {b} h =
 pub words-four : (b : List ℕ) → Bytes b → Four (words4 b)
 unfolding words4
 words-four b h = four (wordAt-word b 0 h) (wordAt-word b 4 h) (wordAt-word b 8 h) (wordAt-word b 12 h)
+
+-- the words of the zero block
+pub words-zeros : words4 zeros ≡ 0 ∷ 0 ∷ 0 ∷ 0 ∷ []
+unfolding words4 wordAt word
+words-zeros = refl
 
 bytes-below : (w : ℕ) → Below 256 (bytesOf w)
 unfolding bytesOf
