@@ -1,0 +1,13 @@
+use borrow.Author.Needs.{needs}
+use Rattle.exports.proofs.IntoLaws.{taken, refused}
+use Rattle.exports.proofs.bowlinette_encipher.Statement.{statement}
+use Rattle.exports.proofs.bowlinette_encipher.Tie as tie
+
+returns : tie.Need-returns
+returns c = taken _ _ _ _ _ (c .before .before .before .encipher .ensures) (c .before .before .number .ensures) (c .before .if1 .taken)
+
+returns-2 : tie.Need-returns-2
+returns-2 c = refused _ _ _ _ _ (c .before .before .encipher .ensures) (c .before .number .ensures) (c .if1 .left)
+
+pub bowlinette-encipher-spec : {M : Type 1} → statement M
+bowlinette-encipher-spec = tie.close (tie.spec (λ c κs. search needs) (λ c κs. search needs) returns returns-2)

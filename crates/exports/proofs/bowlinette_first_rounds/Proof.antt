@@ -1,0 +1,13 @@
+use borrow.Author.Needs.{needs}
+use Rattle.exports.proofs.IntoLaws.{taken, refused}
+use Rattle.exports.proofs.bowlinette_first_rounds.Statement.{statement}
+use Rattle.exports.proofs.bowlinette_first_rounds.Tie as tie
+
+returns : tie.Need-returns
+returns c = taken _ _ _ _ _ (c .before .before .before .first-rounds .ensures) (c .before .before .number .ensures) (c .before .if1 .taken)
+
+returns-2 : tie.Need-returns-2
+returns-2 c = refused _ _ _ _ _ (c .before .before .first-rounds .ensures) (c .before .number .ensures) (c .if1 .left)
+
+pub bowlinette-first-rounds-spec : {M : Type 1} → statement M
+bowlinette-first-rounds-spec = tie.close (tie.spec (λ c κs. search needs) (λ c κs. search needs) returns returns-2)

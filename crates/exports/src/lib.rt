@@ -1,0 +1,70 @@
+// The C interface, for C, Rust and the benchmarks; include/bowlinette.h declares the same. Every
+// function answers 0, or the number of a refusal, in which case nothing behind a pointer has changed.
+ghost use mathlib.Core.Path.{_≡_};
+ghost use Rattle.cipher.specs.Answers.{encipherAnswer, decipherAnswer, roundsAnswer, rowAnswer};
+ghost use Rattle.exports.specs.Into.{into};
+
+// A block enciphered under a key, into out.
+#[no_mangle]
+pub extern "C" fn bowlinette_encipher(key: &[u8], block: &[u8], out: &mut [u8; 16]) -> u32
+    ensures { λ r. ⌜ (r, now (out .exit)) ≡ into (encipherAnswer (now (key .entry)) (now (block .entry))) (now (out .entry)) ⌝ }
+{
+    let a = cipher::lea::encipher(key, block);
+    let outcome = a.outcome;
+    let n = outcome.number();
+    if n == 0 {
+        let b = a.block;
+        *out = b;
+    }
+    n
+}
+
+// A block deciphered under a key, into out.
+#[no_mangle]
+pub extern "C" fn bowlinette_decipher(key: &[u8], block: &[u8], out: &mut [u8; 16]) -> u32
+    ensures { λ r. ⌜ (r, now (out .exit)) ≡ into (decipherAnswer (now (key .entry)) (now (block .entry))) (now (out .entry)) ⌝ }
+{
+    let a = cipher::lea::decipher(key, block);
+    let outcome = a.outcome;
+    let n = outcome.number();
+    if n == 0 {
+        let b = a.block;
+        *out = b;
+    }
+    n
+}
+
+// A block after the first rounds under a key, all of them where the count is more, into out.
+#[no_mangle]
+pub extern "C" fn bowlinette_first_rounds(
+    key: &[u8],
+    rounds: usize,
+    block: &[u8],
+    out: &mut [u8; 16],
+) -> u32
+    ensures { λ r. ⌜ (r, now (out .exit)) ≡ into (roundsAnswer (now (key .entry)) rounds (now (block .entry))) (now (out .entry)) ⌝ }
+{
+    let a = cipher::lea::first_rounds(key, rounds, block);
+    let outcome = a.outcome;
+    let n = outcome.number();
+    if n == 0 {
+        let b = a.block;
+        *out = b;
+    }
+    n
+}
+
+// The six round keys of a round of a key, the round taken mod its rounds, into row.
+#[no_mangle]
+pub extern "C" fn bowlinette_round_keys(key: &[u8], round: usize, row: &mut [u32; 6]) -> u32
+    ensures { λ r. ⌜ (r, now (row .exit)) ≡ into (rowAnswer (now (key .entry)) round) (now (row .entry)) ⌝ }
+{
+    let a = cipher::lea::round_keys(key, round);
+    let outcome = a.outcome;
+    let n = outcome.number();
+    if n == 0 {
+        let k = a.row;
+        *row = k;
+    }
+    n
+}
