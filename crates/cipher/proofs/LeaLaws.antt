@@ -6,17 +6,20 @@ use Prim.Native.Nat.{ℕ, zero, suc, _+_, _*_, _/_, _%_, _^_, _≤_, _<_}
 use native.Mathlib.Numerals.{add-one}
 use native.Mathlib.Omega.{arith}
 use mathlib.Core.List.{List, [], _∷_, _++_}
-use lib.Dec.{lit<}
-use lib.ListN.{getD, length}
+use lib.Bits.{bitXor}
+use lib.Dec.{lit<, lit≤}
+use lib.ListN.{getD, length, take}
+use lib.Seq.{getD-take}
 use Rattle.lists.specs.Tabulation.{tab}
-use Rattle.lists.specs.Blocks.{Below, Bytes, Block, zeros}
+use Rattle.lists.specs.Blocks.{Below, Bytes, Block, zeros, xorBlock}
+use Rattle.lists.proofs.BlockLaws.{xor-at}
 use Rattle.lists.proofs.TabulationLaws.{tab-is}
-use Rattle.cipher.specs.Word.{add, sub, xor, turnLeft, turnRight, word, bytesOf, wordAt}
+use Rattle.cipher.specs.Word.{add, sub, xor, turnLeft, turnRight, word, bytesOf, wordAt, xorWords}
 use Rattle.cipher.specs.KeySize.{rounds}
 use Rattle.cipher.specs.Schedule.{words4, schedule}
 use Rattle.cipher.specs.Lea.{keyed, unkeyed, round, unround, forward, backward, bytes, firstRounds, undoneRounds, encipher, decipher}
 use Rattle.cipher.specs.declared.size.KeySize.{KeySize}
-use Rattle.cipher.proofs.WordLaws.{right-left, left-right, add-word, sub-word, left-word, right-word, xor-word, sub-add, add-sub, xor-xor, bytes-word, word-bytes}
+use Rattle.cipher.proofs.WordLaws.{right-left, left-right, add-word, sub-word, left-word, right-word, xor-word, sub-add, add-sub, xor-xor, bytes-word, word-bytes, word-xor}
 use Rattle.cipher.proofs.ScheduleLaws.{RowsOfWords, wordAt-word, schedule-words}
 
 -- four words
@@ -92,12 +95,12 @@ round-unround k hk (four {a = a} {b = b} {c = c} {d = d} ha hb hc hd) =
 
 -- ---- the rounds
 
-module _ (rows : List (List ℕ)) (hr : RowsOfWords rows) where
-  forward-words : (n : ℕ) {x : List ℕ} → Four x → Four (forward rows n x)
-  unfolding forward
-  forward-words zero h = h
-  forward-words (suc n) h = round-words (getD rows n []) (forward-words n h)
+pub forward-words : (rows : List (List ℕ)) (n : ℕ) {x : List ℕ} → Four x → Four (forward rows n x)
+unfolding forward
+forward-words rows zero h = h
+forward-words rows (suc n) h = round-words (getD rows n []) (forward-words rows n h)
 
+module _ (rows : List (List ℕ)) (hr : RowsOfWords rows) where
   backward-words : (n : ℕ) {x : List ℕ} → Four x → Four (backward rows n x)
   unfolding backward
   backward-words zero h = h
@@ -108,7 +111,7 @@ module _ (rows : List (List ℕ)) (hr : RowsOfWords rows) where
   unfolding forward backward
   backward-forward zero h = refl
   backward-forward (suc n) h =
-      ap (backward rows n) (unround-round (getD rows n []) (hr n) (forward-words n h)) ∙ backward-forward n h
+      ap (backward rows n) (unround-round (getD rows n []) (hr n) (forward-words rows n h)) ∙ backward-forward n h
 
   pub forward-backward : (n : ℕ) {x : List ℕ} → Four x → forward rows n (backward rows n x) ≡ x
   unfolding forward backward
@@ -119,7 +122,7 @@ module _ (rows : List (List ℕ)) (hr : RowsOfWords rows) where
 
 -- ---- words and bytes
 
-words-bytes : {x : List ℕ} → Four x → words4 (bytes x) ≡ x
+pub words-bytes : {x : List ℕ} → Four x → words4 (bytes x) ≡ x
 unfolding words4 bytes wordAt bytesOf
 words-bytes (four {a = a} {b = b} {c = c} {d = d} ha hb hc hd) = cc (word-bytes a ha, word-bytes b hb, word-bytes c hc, word-bytes d hd)
 
@@ -134,6 +137,27 @@ bytes-words {b} h =
 pub words-four : (b : List ℕ) → Bytes b → Four (words4 b)
 unfolding words4
 words-four b h = four (wordAt-word b 0 h) (wordAt-word b 4 h) (wordAt-word b 8 h) (wordAt-word b 12 h)
+
+-- the words of a list are those of its first 16 bytes
+pub words-take : (l : List ℕ) → words4 (take 16 l) ≡ words4 l
+unfolding words4 wordAt
+words-take l = λ i. wordAt-is 0 (lit≤ tt) i ∷ wordAt-is 4 (lit≤ tt) i ∷ wordAt-is 8 (lit≤ tt) i ∷ wordAt-is 12 (lit≤ tt) i ∷ []
+  where
+    wordAt-is : (k : ℕ) → k + 4 ≤ 16 → wordAt (take 16 l) k ≡ wordAt l k
+    wordAt-is k h =
+        let e : (j : ℕ) → j < 4 → getD (take 16 l) (k + j) 0 ≡ getD l (k + j) 0 = λ j b. getD-take 16 l (k + j) 0 (omega arith) in
+        λ i. word (getD-take 16 l k 0 (omega arith) i) (e 1 (lit< tt) i) (e 2 (lit< tt) i) (e 3 (lit< tt) i)
+
+-- xor of blocks, in words
+pub words-xor : (a b : List ℕ) → Bytes a → Bytes b → words4 (xorBlock a b) ≡ xorWords (words4 a) (words4 b)
+unfolding words4 wordAt xorWords
+words-xor a b ha hb = λ i. at 0 (lit≤ tt) i ∷ at 4 (lit≤ tt) i ∷ at 8 (lit≤ tt) i ∷ at 12 (lit≤ tt) i ∷ []
+  where
+    at : (k : ℕ) → k + 4 ≤ 16 → wordAt (xorBlock a b) k ≡ xor (wordAt a k) (wordAt b k)
+    at k h =
+        let e : (j : ℕ) → j < 4 → getD (xorBlock a b) (k + j) 0 ≡ bitXor (getD a (k + j) 0) (getD b (k + j) 0) = λ j l. xor-at a b (k + j) (omega arith) in
+        (λ i. word (xor-at a b k (omega arith) i) (e 1 (lit< tt) i) (e 2 (lit< tt) i) (e 3 (lit< tt) i))
+        ∙ word-xor (getD a k 0) (getD a (k + 1) 0) (getD a (k + 2) 0) (getD a (k + 3) 0) (getD b k 0) (getD b (k + 1) 0) (getD b (k + 2) 0) (getD b (k + 3) 0) (ha k) (ha (k + 1)) (ha (k + 2)) (hb k) (hb (k + 1)) (hb (k + 2))
 
 -- the words of the zero block
 pub words-zeros : words4 zeros ≡ 0 ∷ 0 ∷ 0 ∷ 0 ∷ []
@@ -180,7 +204,7 @@ module _ (rows : List (List ℕ)) (hr : RowsOfWords rows) (n : ℕ) {b : List �
   unfolding firstRounds undoneRounds
   rounds-undone =
       let w = words-four b (h .bytes) in
-      ap (λ (x : List ℕ). bytes (backward rows n x)) (words-bytes (forward-words rows hr n w))
+      ap (λ (x : List ℕ). bytes (backward rows n x)) (words-bytes (forward-words rows n w))
       ∙ ap bytes (backward-forward rows hr n w)
       ∙ bytes-words h
 

@@ -8,7 +8,7 @@ use native.Mathlib.Omega.{arith}
 use mathlib.Core.List.{List, [], _∷_}
 use lib.Arith.{digits-lt}
 use lib.Pow.{mod-pow-add, shl-shr, shr-lt, shl-lt, pow-pos, pow-add, high, low, split}
-use lib.Bits.{bitOr, or-self, or-shifted, or-shifted-r, xor-lt}
+use lib.Bits.{bitOr, bitXor, or-self, or-shifted, or-shifted-r, xor-lt, xor-block}
 use Rattle.lists.proofs.XorLaws.{xor-cancel}
 use Rattle.cipher.specs.Word.{add, sub, xor, turnLeft, turnRight, word, bytesOf}
 
@@ -147,3 +147,23 @@ unfolding word
 word-bytes w h =
     let m : w / 16777216 % 256 ≡ w / 16777216 = omega arith in
     rw m (omega arith)
+
+-- xor of words, byte by byte
+pub word-xor : (a b c d e f g h : ℕ) → a < 256 → b < 256 → c < 256 → e < 256 → f < 256 → g < 256
+    → word (bitXor a e) (bitXor b f) (bitXor c g) (bitXor d h) ≡ xor (word a b c d) (word e f g h)
+unfolding word xor
+word-xor a b c d e f g h ha hb hc he hf hg =
+    let upper = ap₂ bitXor (mid b c d) (mid f g h)
+    ∙ xor-block 8 (d * 256 + c) (h * 256 + g) b f hb hf
+    ∙ ap (λ (n : ℕ). n * 256 + bitXor b f) (xor-block 8 d h c g hc hg)
+    ∙ sym (mid (bitXor b f) (bitXor c g) (bitXor d h)) in
+    let whole = ap₂ bitXor (top a b c d) (top e f g h)
+    ∙ xor-block 8 (d * 65536 + c * 256 + b) (h * 65536 + g * 256 + f) a e ha he
+    ∙ ap (λ (n : ℕ). n * 256 + bitXor a e) upper in
+    top (bitXor a e) (bitXor b f) (bitXor c g) (bitXor d h) ∙ sym whole
+  where
+    top : (a b c d : ℕ) → a + 256 * b + 65536 * c + 16777216 * d ≡ (d * 65536 + c * 256 + b) * 256 + a
+    top a b c d = omega arith
+
+    mid : (b c d : ℕ) → d * 65536 + c * 256 + b ≡ (d * 256 + c) * 256 + b
+    mid b c d = omega arith

@@ -1,4 +1,5 @@
--- Doubling, and the subkeys of CMAC (SP 800-38B, subkey generation; document 01, "Book", its last but one paragraph).
+-- Doubling, the subkeys of CMAC and its chaining (SP 800-38B, subkey generation and MAC generation; document 01, "Book",
+-- its last but one paragraph).
 -- Assumes nothing.
 use mathlib.Core.Bool.{cond}
 use mathlib.Core.List.{List, [], _∷_, _++_}
@@ -7,7 +8,7 @@ use lib.Bits.{bitXor}
 use lib.Dec.{leb}
 use lib.ListN.{getD}
 use Rattle.lists.specs.Tabulation.{tab}
-use Rattle.lists.specs.Blocks.{zeros}
+use Rattle.lists.specs.Blocks.{zeros, xorBlock}
 
 -- a byte of a block shifted left by one bit, the bit that comes in taken from the byte after it
 abbrev pub shifted : ℕ → ℕ → ℕ
@@ -25,3 +26,8 @@ subkey1 cipher = double (cipher zeros)
 
 unfoldable pub subkey2 : (List ℕ → List ℕ) → List ℕ
 subkey2 cipher = double (subkey1 cipher)
+
+-- the chaining value x after some blocks: each is xored in and the result enciphered
+unfoldable pub chained : (List ℕ → List ℕ) → List ℕ → List (List ℕ) → List ℕ
+chained cipher x [] = x
+chained cipher x (b ∷ bs) = chained cipher (cipher (xorBlock x b)) bs

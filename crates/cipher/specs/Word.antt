@@ -41,3 +41,7 @@ bytesOf w = w % 256 ∷ w / 256 % 256 ∷ w / 65536 % 256 ∷ w / 16777216 % 256
 -- the word at byte i of a list
 unfoldable pub wordAt : List ℕ → ℕ → ℕ
 wordAt b i = word (getD b i 0) (getD b (i + 1) 0) (getD b (i + 2) 0) (getD b (i + 3) 0)
+
+-- four words xored with four
+unfoldable pub xorWords : List ℕ → List ℕ → List ℕ
+xorWords x y = xor (getD x 0 0) (getD y 0 0) ∷ xor (getD x 1 0) (getD y 1 0) ∷ xor (getD x 2 0) (getD y 2 0) ∷ xor (getD x 3 0) (getD y 3 0) ∷ []

@@ -1,11 +1,18 @@
-// Doubling and the subkeys of CMAC.
+// Doubling, the subkeys of CMAC and its chaining.
 ghost use mathlib.Core.Path.{_≡_};
+ghost use Prim.Native.Nat.{_*_, _≤_};
+ghost use lib.ListN.{length};
+ghost use Rattle.lists.specs.Blocks.{zeros, cut};
 ghost use Rattle.cipher.specs.KeySize.{rounds};
+ghost use Rattle.cipher.specs.Schedule.{words4};
 ghost use Rattle.cipher.specs.Lea.{firstRounds};
 ghost use Rattle.cipher.specs.Cmac as C;
+use crate::round::four_rounds;
 use crate::rows;
 use crate::size::KeySize;
 use crate::word::bytes;
+use crate::word::words;
+use crate::word::xor;
 
 // The subkeys of a key.
 pub struct SubkeyPair {
@@ -45,4 +52,30 @@ pub fn subkeys(rows: [[u32; 6]; 32], size: KeySize) -> SubkeyPair
     let k1 = double(l);
     let k2 = double(k1);
     SubkeyPair { k1, k2 }
+}
+
+// The chaining value, in words, after the first n blocks of a text, from the zero block. The rows
+// stay here and each round is handed its row, so that no block pays for a copy of them.
+pub fn chain(rows: [[u32; 6]; 32], size: KeySize, text: &[u8], n: usize) -> [u32; 4]
+    requires { ⌜ 16 * n ≤ length (now text) ⌝ }
+    ensures { λ r. ⌜ r ≡ words4 (C.chained (firstRounds rows (rounds size)) zeros (cut n (now (text .entry)))) ⌝ }
+{
+    let fours = size.rounds() / 4;
+    let mut x = [0u32; 4];
+    for k in 0..n {
+        let at = 16 * k;
+        let mut y = xor(x, words(&text[at..]));
+        for q in 0..fours {
+            let z = four_rounds(
+                rows[4 * q],
+                rows[4 * q + 1],
+                rows[4 * q + 2],
+                rows[4 * q + 3],
+                y,
+            );
+            y = z;
+        }
+        x = y;
+    }
+    x
 }

@@ -1,11 +1,11 @@
-// The shared cipher part: key sizes, refusals, the block cipher LEA and the subkeys of CMAC.
+// The shared cipher part: key sizes, refusals, the block cipher LEA, and what CMAC takes from it.
 // Pad, driver, archive and works stand above it and use what its contracts and laws say.
 
 pub mod size; // size.rt: the three key sizes and the lengths that go with them
 pub mod refusal; // refusal.rt: what an operation refuses, by number
-mod word; // word.rt: 32-bit words
+pub mod word; // word.rt: 32-bit words
 pub mod schedule; // schedule.rt: round keys from a key
 pub mod round; // round.rt: a round of LEA, and the same undone
 pub mod rows; // rows.rt: blocks under the rows of a schedule
 pub mod lea; // lea.rt: the operations on a key and a block
-pub mod cmac; // cmac.rt: doubling and the subkeys of CMAC
+pub mod cmac; // cmac.rt: doubling, the subkeys of CMAC and its chaining

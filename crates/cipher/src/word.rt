@@ -68,3 +68,10 @@ pub fn bytes(x: [u32; 4]) -> [u8; 16]
         (x[3] / 16777216 % 256) as u8,
     ]
 }
+
+// Four words xored with four.
+pub fn xor(x: [u32; 4], y: [u32; 4]) -> [u32; 4]
+    ensures { λ r. ⌜ r ≡ W.xorWords x y ⌝ }
+{
+    [x[0] ^ y[0], x[1] ^ y[1], x[2] ^ y[2], x[3] ^ y[3]]
+}

@@ -1,8 +1,12 @@
 // The C interface, for C, Rust and the benchmarks; include/bowlinette.h declares the same. Every
 // function answers 0, or the number of a refusal, in which case nothing behind a pointer has changed.
 ghost use mathlib.Core.Path.{_≡_};
+ghost use Rattle.exports.specs.Chain.{chainAnswer};
 ghost use Rattle.cipher.specs.Answers.{encipherAnswer, decipherAnswer, roundsAnswer, rowAnswer};
 ghost use Rattle.exports.specs.Into.{into};
+use cipher::refusal::Refusal;
+use cipher::size::KeySize;
+use cipher::size::SizeFound;
 
 // A block enciphered under a key, into out.
 #[no_mangle]
@@ -67,4 +71,19 @@ pub extern "C" fn bowlinette_round_keys(key: &[u8], round: usize, row: &mut [u32
         *row = k;
     }
     n
+}
+
+// For the benchmark: the chaining value of CMAC after the whole blocks of a text, into out.
+#[no_mangle]
+pub extern "C" fn bowlinette_bench_chain(key: &[u8], text: &[u8], out: &mut [u8; 16]) -> u32
+    ensures { λ r. ⌜ (r, now (out .exit)) ≡ into (chainAnswer (now (key .entry)) (now (text .entry))) (now (out .entry)) ⌝ }
+{
+    let SizeFound::Found(size) = KeySize::of_key_len(key.len()) else {
+        return Refusal::KeyLength.number();
+    };
+    let rows = cipher::schedule::schedule(size, key);
+    let x = cipher::cmac::chain(rows, size, text, text.len() / 16);
+    let b = cipher::word::bytes(x);
+    *out = b;
+    0
 }

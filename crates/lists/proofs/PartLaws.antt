@@ -28,6 +28,10 @@ grown-part p q d n m e =
 pub grown-whole : (p d : List ℕ) (n : ℕ) → length d ≤ n → p ++ drop n d ≡ p
 grown-whole p d n h = rw (drop-of-length-le d h) (append-nil p)
 
+-- the part `&l[a..]`, as the borrow checker writes it
+pub part-end : (l : List ℕ) (a : ℕ) → take (length l - a) (drop a l) ≡ drop a l
+part-end l a = take-all (length l - a) (drop a l) (le-of-eq (length-drop a l))
+
 -- a loop that fills by a rule: a turn, and the end
 pub tab-turn : (f : ℕ → ℕ) (d₀ d : List ℕ) (i v : ℕ) → d ≡ tab i f ++ drop i d₀ → v ≡ f i → i < length d₀
     → set d i v ≡ tab (i + 1) f ++ drop (i + 1) d₀
