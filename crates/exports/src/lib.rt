@@ -2,18 +2,17 @@
 // function answers 0, or the number of a refusal, in which case nothing behind a pointer has changed.
 ghost use mathlib.Core.Path.{_≡_};
 ghost use Rattle.exports.specs.Chain.{chainAnswer};
-ghost use Rattle.cipher.specs.Answers.{encipherAnswer, decipherAnswer, roundsAnswer, rowAnswer};
+ghost use Rattle.cipher.specs.Answers.{blockTold, encipherAnswer, decipherAnswer, roundsAnswer, rowAnswer};
 ghost use Rattle.exports.specs.Into.{into};
+use cipher::lea::BlockAnswer;
 use cipher::refusal::Refusal;
 use cipher::size::KeySize;
 use cipher::size::SizeFound;
 
-// A block enciphered under a key, into out.
-#[no_mangle]
-pub extern "C" fn bowlinette_encipher(key: &[u8], block: &[u8], out: &mut [u8; 16]) -> u32
-    ensures { λ r. ⌜ (r, now (out .exit)) ≡ into (encipherAnswer (now (key .entry)) (now (block .entry))) (now (out .entry)) ⌝ }
+// An answer's block into out, and its number.
+fn deliver(a: BlockAnswer, out: &mut [u8; 16]) -> u32
+    ensures { λ r. ⌜ (r, now (out .exit)) ≡ into (blockTold a) (now (out .entry)) ⌝ }
 {
-    let a = cipher::lea::encipher(key, block);
     let outcome = a.outcome;
     let n = outcome.number();
     if n == 0 {
@@ -23,19 +22,20 @@ pub extern "C" fn bowlinette_encipher(key: &[u8], block: &[u8], out: &mut [u8; 1
     n
 }
 
+// A block enciphered under a key, into out.
+#[no_mangle]
+pub extern "C" fn bowlinette_encipher(key: &[u8], block: &[u8], out: &mut [u8; 16]) -> u32
+    ensures { λ r. ⌜ (r, now (out .exit)) ≡ into (encipherAnswer (now (key .entry)) (now (block .entry))) (now (out .entry)) ⌝ }
+{
+    deliver(cipher::lea::encipher(key, block), out)
+}
+
 // A block deciphered under a key, into out.
 #[no_mangle]
 pub extern "C" fn bowlinette_decipher(key: &[u8], block: &[u8], out: &mut [u8; 16]) -> u32
     ensures { λ r. ⌜ (r, now (out .exit)) ≡ into (decipherAnswer (now (key .entry)) (now (block .entry))) (now (out .entry)) ⌝ }
 {
-    let a = cipher::lea::decipher(key, block);
-    let outcome = a.outcome;
-    let n = outcome.number();
-    if n == 0 {
-        let b = a.block;
-        *out = b;
-    }
-    n
+    deliver(cipher::lea::decipher(key, block), out)
 }
 
 // A block after the first rounds under a key, all of them where the count is more, into out.
@@ -48,14 +48,7 @@ pub extern "C" fn bowlinette_first_rounds(
 ) -> u32
     ensures { λ r. ⌜ (r, now (out .exit)) ≡ into (roundsAnswer (now (key .entry)) rounds (now (block .entry))) (now (out .entry)) ⌝ }
 {
-    let a = cipher::lea::first_rounds(key, rounds, block);
-    let outcome = a.outcome;
-    let n = outcome.number();
-    if n == 0 {
-        let b = a.block;
-        *out = b;
-    }
-    n
+    deliver(cipher::lea::first_rounds(key, rounds, block), out)
 }
 
 // The six round keys of a round of a key, the round taken mod its rounds, into row.
@@ -65,12 +58,12 @@ pub extern "C" fn bowlinette_round_keys(key: &[u8], round: usize, row: &mut [u32
 {
     let a = cipher::lea::round_keys(key, round);
     let outcome = a.outcome;
-    let n = outcome.number();
-    if n == 0 {
+    let number = outcome.number();
+    if number == 0 {
         let k = a.row;
         *row = k;
     }
-    n
+    number
 }
 
 // For the benchmark: the chaining value of CMAC after the whole blocks of a text, into out.
