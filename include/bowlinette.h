@@ -1,0 +1,86 @@
+/*
+ * Bowlinette: the cipher LEA for C programs. Link libexports.a.
+ *
+ * Every function returns 0, or the number of a refusal. Where several refusals apply, the lowest
+ * number is returned. After a refusal nothing behind any pointer has changed; after a success only
+ * what the function's last pointer refers to has.
+ *
+ * All lengths count bytes. No pointer may be null, also where its length is 0, and what is written
+ * must not overlap what is read. The functions keep nothing between calls and use no heap, so they
+ * may run at the same time in several threads.
+ */
+#ifndef BOWLINETTE_H
+#define BOWLINETTE_H
+
+#include <stddef.h>
+#include <stdint.h>
+
+#ifdef __cplusplus
+extern "C" {
+#endif
+
+/* What is returned. */
+#define BOWLINETTE_DONE 0
+#define BOWLINETTE_REFUSED_KEY_LENGTH 1   /* the key is not of 16, 24 or 32 bytes */
+#define BOWLINETTE_REFUSED_BLOCK_LENGTH 7 /* the block is not of 16 bytes */
+
+/* A block, in bytes, and the round keys of one round, in 32-bit words. */
+#define BOWLINETTE_BLOCK_LENGTH 16
+#define BOWLINETTE_ROW_WORDS 6
+
+/* The three key sizes: the key in bytes, its rounds, its chain and its book in bytes. */
+#define BOWLINETTE_KEY_LENGTH_128 16
+#define BOWLINETTE_ROUNDS_128 24
+#define BOWLINETTE_CHAIN_LENGTH_128 23104
+#define BOWLINETTE_BOOK_LENGTH_128 466960
+
+#define BOWLINETTE_KEY_LENGTH_192 24
+#define BOWLINETTE_ROUNDS_192 28
+#define BOWLINETTE_CHAIN_LENGTH_192 26784
+#define BOWLINETTE_BOOK_LENGTH_192 540688
+
+#define BOWLINETTE_KEY_LENGTH_256 32
+#define BOWLINETTE_ROUNDS_256 32
+#define BOWLINETTE_CHAIN_LENGTH_256 30464
+#define BOWLINETTE_BOOK_LENGTH_256 614416
+
+/*
+ * Enciphers one block and writes the 16 bytes of the ciphertext to out.
+ * Refuses 1 (key length), then 7 (block length).
+ */
+uint32_t bowlinette_encipher(const uint8_t *key, size_t key_length,
+                             const uint8_t *block, size_t block_length,
+                             uint8_t *out);
+
+/*
+ * Deciphers one block and writes the 16 bytes of the plaintext to out.
+ * Refuses 1 (key length), then 7 (block length).
+ */
+uint32_t bowlinette_decipher(const uint8_t *key, size_t key_length,
+                             const uint8_t *block, size_t block_length,
+                             uint8_t *out);
+
+/*
+ * Takes one block through the first rounds of enciphering and writes the 16 bytes that stand after
+ * them to out. With 0 rounds that is the block; a count above the key's rounds means all of them.
+ * Refuses 1 (key length), then 7 (block length).
+ */
+uint32_t bowlinette_first_rounds(const uint8_t *key, size_t key_length,
+                                 size_t rounds,
+                                 const uint8_t *block, size_t block_length,
+                                 uint8_t *out);
+
+/*
+ * Writes the six round keys of one round to row, in the order in which the round uses them. Rounds
+ * count from 0; the number given is taken mod the key's rounds.
+ * Refuses 1 (key length).
+ */
+uint32_t bowlinette_round_keys(const uint8_t *key, size_t key_length,
+                               size_t round,
+                               uint32_t *row);
+
+#ifdef __cplusplus
+}
+#endif
+
+#endif
