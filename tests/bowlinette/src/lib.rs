@@ -1,0 +1,87 @@
+//! The functions of include/bowlinette.h for Rust, over slices. Each returns 0, or the number of a
+//! refusal, in which case the last argument is as it was.
+
+mod c {
+    extern "C" {
+        pub fn bowlinette_encipher(
+            key: *const u8,
+            key_length: usize,
+            block: *const u8,
+            block_length: usize,
+            out: *mut u8,
+        ) -> u32;
+        pub fn bowlinette_decipher(
+            key: *const u8,
+            key_length: usize,
+            block: *const u8,
+            block_length: usize,
+            out: *mut u8,
+        ) -> u32;
+        pub fn bowlinette_first_rounds(
+            key: *const u8,
+            key_length: usize,
+            rounds: usize,
+            block: *const u8,
+            block_length: usize,
+            out: *mut u8,
+        ) -> u32;
+        pub fn bowlinette_round_keys(
+            key: *const u8,
+            key_length: usize,
+            round: usize,
+            row: *mut u32,
+        ) -> u32;
+    }
+}
+
+// Each call below is sound because pointers and lengths come from references: what is read is as
+// long as said, what is written has the size that the header names, and the two do not overlap.
+
+/// A block enciphered, into out.
+#[inline]
+pub fn encipher(key: &[u8], block: &[u8], out: &mut [u8; 16]) -> u32 {
+    unsafe {
+        c::bowlinette_encipher(
+            key.as_ptr(),
+            key.len(),
+            block.as_ptr(),
+            block.len(),
+            out.as_mut_ptr(),
+        )
+    }
+}
+
+/// A block deciphered, into out.
+#[inline]
+pub fn decipher(key: &[u8], block: &[u8], out: &mut [u8; 16]) -> u32 {
+    unsafe {
+        c::bowlinette_decipher(
+            key.as_ptr(),
+            key.len(),
+            block.as_ptr(),
+            block.len(),
+            out.as_mut_ptr(),
+        )
+    }
+}
+
+/// A block after the first rounds, into out.
+#[inline]
+pub fn first_rounds(key: &[u8], rounds: usize, block: &[u8], out: &mut [u8; 16]) -> u32 {
+    unsafe {
+        c::bowlinette_first_rounds(
+            key.as_ptr(),
+            key.len(),
+            rounds,
+            block.as_ptr(),
+            block.len(),
+            out.as_mut_ptr(),
+        )
+    }
+}
+
+/// The round keys of one round, into row.
+#[inline]
+pub fn round_keys(key: &[u8], round: usize, row: &mut [u32; 6]) -> u32 {
+    unsafe { c::bowlinette_round_keys(key.as_ptr(), key.len(), round, row.as_mut_ptr()) }
+}
