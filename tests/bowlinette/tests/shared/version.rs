@@ -1,0 +1,38 @@
+//! The proved library and the reference under one set of names, so that a test runs on both.
+
+use reference::lea::{self, Block, Row};
+
+/// What a call gives, or the number of its refusal.
+type Answer<T> = Result<T, u32>;
+
+pub struct Version {
+    pub name: &'static str,
+    pub encipher: fn(&[u8], &[u8]) -> Answer<Block>,
+    pub decipher: fn(&[u8], &[u8]) -> Answer<Block>,
+    pub first_rounds: fn(&[u8], usize, &[u8]) -> Answer<Block>,
+    pub round_keys: fn(&[u8], usize) -> Answer<Row>,
+}
+
+pub const PROVED: Version = Version {
+    name: "proved library",
+    encipher: |key, block| told([0; 16], |out| bowlinette::encipher(key, block, out)),
+    decipher: |key, block| told([0; 16], |out| bowlinette::decipher(key, block, out)),
+    first_rounds: |key, n, block| told([0; 16], |out| bowlinette::first_rounds(key, n, block, out)),
+    round_keys: |key, n| told([0; 6], |row| bowlinette::round_keys(key, n, row)),
+};
+
+pub const REFERENCE: Version = Version {
+    name: "reference",
+    encipher: lea::encipher,
+    decipher: lea::decipher,
+    first_rounds: lea::first_rounds,
+    round_keys: lea::round_keys,
+};
+
+/// What a call wrote, if it returned 0.
+fn told<T>(mut out: T, call: impl Fn(&mut T) -> u32) -> Answer<T> {
+    match call(&mut out) {
+        0 => Ok(out),
+        number => Err(number),
+    }
+}
