@@ -1,0 +1,105 @@
+//! The proved library against the reference on random keys and blocks, and on keys and blocks with
+//! a single bit set or clear.
+
+#[path = "shared/random.rs"]
+mod random;
+#[path = "shared/version.rs"]
+mod version;
+
+use random::Random;
+use reference::{lea, Size};
+use version::{PROVED, REFERENCE};
+
+/// Enciphering and deciphering of one block, on both sides, and back again.
+fn both_ways(key: &[u8], block: &[u8]) {
+    let sides = [PROVED.name, REFERENCE.name];
+    let there = (PROVED.encipher)(key, block);
+    let want = (REFERENCE.encipher)(key, block);
+    assert_eq!(there, want, "{sides:?} encipher, {key:02x?} {block:02x?}");
+    let back = (PROVED.decipher)(key, block);
+    let want = (REFERENCE.decipher)(key, block);
+    assert_eq!(back, want, "{sides:?} decipher, {key:02x?} {block:02x?}");
+    let again = (PROVED.decipher)(key, &there.unwrap()).unwrap();
+    assert_eq!(again, block, "there and back, {key:02x?} {block:02x?}");
+}
+
+#[test]
+fn random_keys_and_blocks_both_ways() {
+    let mut random = Random(1);
+    for size in Size::ALL {
+        for _ in 0..4_000 {
+            both_ways(&random.bytes(size.key_bytes()), &random.bytes(16));
+        }
+    }
+}
+
+#[test]
+fn single_bits_both_ways() {
+    for size in Size::ALL {
+        for rest in [0x00, 0xff] {
+            let (key, block) = (vec![rest; size.key_bytes()], vec![rest; 16]);
+            for bit in 0..8 * key.len() {
+                let mut other = key.clone();
+                other[bit / 8] ^= 1 << (bit % 8);
+                both_ways(&other, &block);
+            }
+            for bit in 0..8 * block.len() {
+                let mut other = block.clone();
+                other[bit / 8] ^= 1 << (bit % 8);
+                both_ways(&key, &other);
+            }
+        }
+    }
+}
+
+#[test]
+fn first_rounds_of_any_count() {
+    let mut random = Random(2);
+    for size in Size::ALL {
+        for _ in 0..80 {
+            let (key, block) = (random.bytes(size.key_bytes()), random.bytes(16));
+            let whole = (PROVED.encipher)(&key, &block);
+            for count in (0..=40).chain([1 << 32, usize::MAX]) {
+                let got = (PROVED.first_rounds)(&key, count, &block);
+                let want = (REFERENCE.first_rounds)(&key, count, &block);
+                assert_eq!(
+                    got, want,
+                    "{count} rounds, key {key:02x?}, block {block:02x?}"
+                );
+                assert_eq!(got == whole, count >= size.rounds(), "{count} rounds");
+            }
+        }
+    }
+}
+
+#[test]
+fn round_keys_of_any_round() {
+    let mut random = Random(3);
+    for size in Size::ALL {
+        for _ in 0..80 {
+            let key = random.bytes(size.key_bytes());
+            for number in (0..=100).chain([1 << 32, usize::MAX]) {
+                let got = (PROVED.round_keys)(&key, number);
+                let want = (REFERENCE.round_keys)(&key, number);
+                assert_eq!(got, want, "round {number}, key {key:02x?}");
+                let first = (PROVED.round_keys)(&key, number % size.rounds());
+                assert_eq!(got, first, "round {number}, key {key:02x?}");
+            }
+        }
+    }
+}
+
+/// The reference alone: any number of rounds undone, also one that is no multiple of four.
+#[test]
+fn the_reference_undoes_any_rounds() {
+    let mut random = Random(4);
+    for size in Size::ALL {
+        let (_, rows) = lea::schedule(&random.bytes(size.key_bytes())).unwrap();
+        let x = lea::state(&random.bytes(16).try_into().unwrap());
+        for count in 0..=size.rounds() {
+            let rows = &rows[..count];
+            let y = lea::forward(rows, x);
+            assert_eq!(lea::backward(rows, y), x, "{size:?}, {count} rounds");
+        }
+    }
+}
