@@ -1,0 +1,121 @@
+//! Keys and blocks of every length near the right ones, and of lengths that only differ from them
+//! above the low bits: which number comes back, and which bytes change.
+
+#[path = "shared/random.rs"]
+mod random;
+#[path = "shared/version.rs"]
+mod version;
+
+use random::Random;
+use std::fmt::Debug;
+use version::{Version, PROVED, REFERENCE};
+
+/// 0 to 40, and the right lengths with 256 or 65,536 added.
+fn lengths() -> impl Iterator<Item = usize> + Clone {
+    (0..=40).chain([272, 280, 288, 65_552, 65_560, 65_568])
+}
+
+/// The number due: 1 for the key, before 7 for the block.
+fn due(key: usize, block: usize) -> u32 {
+    if key != 16 && key != 24 && key != 32 {
+        1
+    } else if block != 16 {
+        7
+    } else {
+        0
+    }
+}
+
+/// Calls with the middle third of a filled buffer. The call must return this number, and change
+/// the middle if that is 0, and nothing else.
+fn guarded<T: Copy + PartialEq + Debug, const N: usize>(
+    fill: T,
+    number: u32,
+    call: impl Fn(&mut [T; N]) -> u32,
+) {
+    let mut buffer = vec![fill; 3 * N];
+    let middle = (&mut buffer[N..2 * N]).try_into().unwrap();
+    assert_eq!(call(middle), number);
+    assert_eq!(buffer[..N], [fill; N], "before what is written");
+    assert_eq!(buffer[2 * N..], [fill; N], "after what is written");
+    let untouched = buffer[N..2 * N] == [fill; N];
+    assert_eq!(
+        untouched,
+        number != 0,
+        "the bytes to write, number {number}"
+    );
+}
+
+/// Runs a check for each pair of lengths on a key and a block, which must stay as they are.
+fn on_pairs(check: impl Fn(&[u8], &[u8], u32)) {
+    let mut random = Random(5);
+    for k in lengths() {
+        for b in lengths() {
+            let (key, block) = (random.bytes(k), random.bytes(b));
+            let before = (key.clone(), block.clone());
+            check(&key, &block, due(k, b));
+            assert_eq!((key, block), before, "key of {k}, block of {b}");
+        }
+    }
+}
+
+#[test]
+fn encipher() {
+    on_pairs(|key, block, number| {
+        guarded(0xa5, number, |out| bowlinette::encipher(key, block, out));
+    });
+}
+
+#[test]
+fn decipher() {
+    on_pairs(|key, block, number| {
+        guarded(0xa5, number, |out| bowlinette::decipher(key, block, out));
+    });
+}
+
+#[test]
+fn first_rounds() {
+    on_pairs(|key, block, number| {
+        for count in [0, 1, 24, usize::MAX] {
+            guarded(0xa5, number, |out| {
+                bowlinette::first_rounds(key, count, block, out)
+            });
+        }
+    });
+}
+
+#[test]
+fn round_keys() {
+    let mut random = Random(6);
+    for k in lengths() {
+        let key = random.bytes(k);
+        let before = key.clone();
+        for number in [0, 1, 31, usize::MAX] {
+            guarded(0xa5a5_a5a5, due(k, 16), |row| {
+                bowlinette::round_keys(&key, number, row)
+            });
+        }
+        assert_eq!(key, before, "key of {k}");
+    }
+}
+
+/// Both versions refuse alike, every operation of theirs.
+#[test]
+fn both_versions_alike() {
+    let number = |r: Result<(), u32>| r.err().unwrap_or(0);
+    let told = |v: &Version, key: &[u8], block: &[u8]| {
+        [
+            number((v.encipher)(key, block).map(drop)),
+            number((v.decipher)(key, block).map(drop)),
+            number((v.first_rounds)(key, 3, block).map(drop)),
+            number((v.round_keys)(key, 3).map(drop)),
+        ]
+    };
+    on_pairs(|key, block, number| {
+        let want = [number, number, number, due(key.len(), 16)];
+        for v in [&PROVED, &REFERENCE] {
+            let lengths = (key.len(), block.len());
+            assert_eq!(told(v, key, block), want, "{}, {lengths:?}", v.name);
+        }
+    });
+}
