@@ -1,0 +1,48 @@
+/* Prints the header's constants, a line for each key size, then what the four functions give. */
+#include "bowlinette.h"
+#include <stdio.h>
+
+#define SIZE(bits)                                                                            \
+    printf("%d %d %d %d\n", BOWLINETTE_KEY_LENGTH_##bits, BOWLINETTE_ROUNDS_##bits,           \
+           BOWLINETTE_CHAIN_LENGTH_##bits, BOWLINETTE_BOOK_LENGTH_##bits)
+
+static void show(uint32_t number, const uint8_t *bytes)
+{
+    size_t i;
+    printf("%lu ", (unsigned long)number);
+    for (i = 0; i < BOWLINETTE_BLOCK_LENGTH; i++)
+        printf("%02x", bytes[i]);
+    printf("\n");
+}
+
+int main(void)
+{
+    uint8_t key[BOWLINETTE_KEY_LENGTH_256], block[BOWLINETTE_BLOCK_LENGTH + 1];
+    uint8_t out[BOWLINETTE_BLOCK_LENGTH] = {0};
+    uint32_t row[BOWLINETTE_ROW_WORDS], number;
+    size_t i;
+
+    for (i = 0; i < sizeof key; i++)
+        key[i] = (uint8_t)(7 * i);
+    for (i = 0; i < sizeof block; i++)
+        block[i] = (uint8_t)(11 * i);
+    SIZE(128);
+    SIZE(192);
+    SIZE(256);
+    number = bowlinette_encipher(key, sizeof key, block, 16, out);
+    show(number, out);
+    number = bowlinette_decipher(key, sizeof key, block, 16, out);
+    show(number, out);
+    number = bowlinette_first_rounds(key, sizeof key, 5, block, 16, out);
+    show(number, out);
+    number = bowlinette_encipher(key, sizeof key, block, sizeof block, out);
+    printf("%d\n", number == BOWLINETTE_REFUSED_BLOCK_LENGTH);
+    number = bowlinette_encipher(key, sizeof key - 1, block, sizeof block, out);
+    printf("%d\n", number == BOWLINETTE_REFUSED_KEY_LENGTH);
+    number = bowlinette_round_keys(key, sizeof key, 3, row);
+    printf("%d", number == BOWLINETTE_DONE);
+    for (i = 0; i < BOWLINETTE_ROW_WORDS; i++)
+        printf(" %08lx", (unsigned long)row[i]);
+    printf("\n");
+    return 0;
+}

@@ -1,0 +1,56 @@
+//! include/bowlinette.h as a C program sees it: tests/c/header.c is compiled with it as C99, linked
+//! with the static library and run, and must print what the reference says.
+
+use reference::{lea, Size};
+use std::path::Path;
+use std::process::Command;
+
+/// What a command prints; it must succeed.
+fn printed(command: &mut Command) -> String {
+    let output = command.output().expect("the command starts");
+    let said = String::from_utf8_lossy(&output.stderr);
+    assert!(output.status.success(), "{command:?}: {said}");
+    String::from_utf8(output.stdout).expect("text")
+}
+
+fn line(block: Result<lea::Block, u32>) -> String {
+    let bytes = block.unwrap();
+    let hex: String = bytes.iter().map(|b| format!("{b:02x}")).collect();
+    format!("0 {hex}")
+}
+
+/// The lines due, in the order of header.c.
+fn due() -> Vec<String> {
+    let key: Vec<u8> = (0..32).map(|i| 7 * i).collect();
+    let block: Vec<u8> = (0..16).map(|i| 11 * i).collect();
+    let mut lines: Vec<String> = Vec::new();
+    for s in Size::ALL {
+        let (chain, book) = (s.chain_bytes(), s.book_bytes());
+        lines.push(format!("{} {} {chain} {book}", s.key_bytes(), s.rounds()));
+    }
+    lines.push(line(lea::encipher(&key, &block)));
+    lines.push(line(lea::decipher(&key, &block)));
+    lines.push(line(lea::first_rounds(&key, 5, &block)));
+    lines.push("1".into());
+    lines.push("1".into());
+    let row = lea::round_keys(&key, 3).unwrap();
+    let words: String = row.iter().map(|w| format!(" {w:08x}")).collect();
+    lines.push(format!("1{words}"));
+    lines
+}
+
+#[test]
+fn a_c_program_with_the_header() {
+    let here = Path::new(env!("CARGO_MANIFEST_DIR"));
+    let program = Path::new(env!("CARGO_TARGET_TMPDIR")).join("header");
+    let mut cc = Command::new("cc");
+    cc.args(["-std=c99", "-Wall", "-Wextra", "-pedantic", "-Werror", "-I"])
+        .arg(here.join("../../include"))
+        .arg(here.join("tests/c/header.c"))
+        .arg(here.join("../../target/staticlib/libexports.a"))
+        .arg("-o")
+        .arg(&program);
+    printed(&mut cc);
+    let lines = printed(&mut Command::new(&program));
+    assert_eq!(lines.lines().collect::<Vec<_>>(), due());
+}
