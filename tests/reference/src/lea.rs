@@ -8,8 +8,11 @@ pub type Block = [u8; 16];
 pub type State = [u32; 4];
 /// The six round keys of one round.
 pub type Row = [u32; 6];
-/// A whole schedule; the rows after the last round are zero.
+/// Room for the rows of any schedule; those after the last round are not used.
 pub type Rows = [Row; 32];
+
+/// Rows to write a schedule to.
+pub const EMPTY: Rows = [[0; 6]; 32];
 
 /// The constants δ0 to δ7 (01, "LEA").
 const DELTA: [u32; 8] = [
@@ -85,37 +88,32 @@ fn step(word: u32, addend: u32, m: usize) -> u32 {
 
 /// The schedule of a 16-byte key.
 #[inline]
-fn schedule_128(key: &[u8; 16]) -> Rows {
+fn schedule_128(key: &[u8; 16], rows: &mut Rows) {
     let mut t: [u32; 4] = std::array::from_fn(|k| word(key, k));
-    let mut rows = [[0; 6]; 32];
     for (row, add) in rows[..24].iter_mut().zip(&ADDENDS_128) {
         for m in 0..4 {
             t[m] = step(t[m], add[m], m);
         }
         *row = [t[0], t[1], t[2], t[1], t[3], t[1]];
     }
-    rows
 }
 
 /// The schedule of a 24-byte key.
 #[inline]
-fn schedule_192(key: &[u8; 24]) -> Rows {
+fn schedule_192(key: &[u8; 24], rows: &mut Rows) {
     let mut t: [u32; 6] = std::array::from_fn(|k| word(key, k));
-    let mut rows = [[0; 6]; 32];
     for (row, add) in rows[..28].iter_mut().zip(&ADDENDS_192) {
         for m in 0..6 {
             t[m] = step(t[m], add[m], m);
         }
         *row = t;
     }
-    rows
 }
 
 /// The schedule of a 32-byte key. Four rows take 24 words, so the places repeat every four rows.
 #[inline]
-fn schedule_256(key: &[u8; 32]) -> Rows {
+fn schedule_256(key: &[u8; 32], rows: &mut Rows) {
     let mut t: [u32; 8] = std::array::from_fn(|k| word(key, k));
-    let mut rows = [[0; 6]; 32];
     for (four, adds) in rows.chunks_exact_mut(4).zip(ADDENDS_256.chunks_exact(4)) {
         for i in 0..4 {
             for m in 0..6 {
@@ -125,21 +123,18 @@ fn schedule_256(key: &[u8; 32]) -> Rows {
             }
         }
     }
-    rows
 }
 
-/// The size and the schedule of a key; refuses a key of another length.
+/// The size of a key, its schedule written to the first rows; refuses a key of another length.
 #[inline]
-pub fn schedule(key: &[u8]) -> Result<(Size, Rows), u32> {
-    if let Ok(key) = key.try_into() {
-        Ok((Size::Lea128, schedule_128(key)))
-    } else if let Ok(key) = key.try_into() {
-        Ok((Size::Lea192, schedule_192(key)))
-    } else if let Ok(key) = key.try_into() {
-        Ok((Size::Lea256, schedule_256(key)))
-    } else {
-        Err(refusal::KEY_LENGTH)
+pub fn schedule(key: &[u8], rows: &mut Rows) -> Result<Size, u32> {
+    let size = Size::of_key(key.len()).ok_or(refusal::KEY_LENGTH)?;
+    match size {
+        Size::Lea128 => schedule_128(key.try_into().unwrap(), rows),
+        Size::Lea192 => schedule_192(key.try_into().unwrap(), rows),
+        Size::Lea256 => schedule_256(key.try_into().unwrap(), rows),
     }
+    Ok(size)
 }
 
 /// One round in place (01, "LEA", round). Old words 0 to 3 are a, b, c, d; new ones are b, c, d, a.
@@ -214,7 +209,8 @@ pub fn encipher(key: &[u8], text: &[u8]) -> Result<Block, u32> {
 /// A block deciphered.
 #[inline]
 pub fn decipher(key: &[u8], text: &[u8]) -> Result<Block, u32> {
-    let (size, rows) = schedule(key)?;
+    let mut rows = EMPTY;
+    let size = schedule(key, &mut rows)?;
     let x = checked(text)?;
     Ok(block(backward(&rows[..size.rounds()], x)))
 }
@@ -222,7 +218,8 @@ pub fn decipher(key: &[u8], text: &[u8]) -> Result<Block, u32> {
 /// A block after the first rounds, all of them where the count is more.
 #[inline]
 pub fn first_rounds(key: &[u8], count: usize, text: &[u8]) -> Result<Block, u32> {
-    let (size, rows) = schedule(key)?;
+    let mut rows = EMPTY;
+    let size = schedule(key, &mut rows)?;
     let x = checked(text)?;
     Ok(block(forward(&rows[..count.min(size.rounds())], x)))
 }
@@ -230,6 +227,7 @@ pub fn first_rounds(key: &[u8], count: usize, text: &[u8]) -> Result<Block, u32>
 /// The round keys of one round, its number taken mod the key's rounds.
 #[inline]
 pub fn round_keys(key: &[u8], number: usize) -> Result<Row, u32> {
-    let (size, rows) = schedule(key)?;
+    let mut rows = EMPTY;
+    let size = schedule(key, &mut rows)?;
     Ok(rows[number % size.rounds()])
 }
