@@ -1,0 +1,97 @@
+//! Times the proved library and the reference in one process and prints how they compare.
+
+use reference::{lea, Size};
+use std::hint::black_box;
+use std::time::{Duration, Instant};
+
+/// How long one timed run of calls should last, and how many there are of each version.
+const RUN: Duration = Duration::from_micros(20);
+const RUNS: usize = 4_000;
+
+/// Nanoseconds per call over so many calls.
+fn timed(calls: u32, f: &mut impl FnMut()) -> f64 {
+    let start = Instant::now();
+    for _ in 0..calls {
+        f();
+    }
+    start.elapsed().as_nanos() as f64 / f64::from(calls)
+}
+
+/// How many calls fill a run.
+fn calls(f: &mut impl FnMut()) -> u32 {
+    let mut n = 1;
+    while timed(n, f) * f64::from(n) < RUN.as_nanos() as f64 && n < 1 << 20 {
+        n *= 2;
+    }
+    n
+}
+
+/// Prints a row. The two versions take turns, and the fastest run of each counts: other work on
+/// the machine can only make a run slower.
+fn measure(name: &str, size: Size, mut rattle: impl FnMut(), mut rust: impl FnMut()) {
+    let (n, m) = (calls(&mut rattle), calls(&mut rust));
+    let (mut a, mut b) = (f64::INFINITY, f64::INFINITY);
+    for _ in 0..RUNS {
+        a = a.min(timed(n, &mut rattle));
+        b = b.min(timed(m, &mut rust));
+    }
+    let (key, ratio) = (size.key_bytes(), a / b);
+    println!("{name:<12} {key:>9} {a:>12.1} {b:>12.1} {ratio:>8.2}");
+}
+
+/// Enciphering and deciphering from key and block, and a whole schedule: neither version knows which
+/// row will be asked for, so both make them all.
+fn cipher(size: Size) {
+    let key: Vec<u8> = (0..size.key_bytes() as u8).map(|i| 37 * i).collect();
+    let key = key.as_slice();
+    let text: [u8; 16] = std::array::from_fn(|i| 11 * i as u8);
+    let (mut out, mut row) = ([0; 16], [0; 6]);
+    measure(
+        "encipher",
+        size,
+        || {
+            _ = black_box(bowlinette::encipher(
+                black_box(key),
+                black_box(&text),
+                black_box(&mut out),
+            ))
+        },
+        || _ = black_box(&lea::encipher(black_box(key), black_box(&text))),
+    );
+    measure(
+        "decipher",
+        size,
+        || {
+            _ = black_box(bowlinette::decipher(
+                black_box(key),
+                black_box(&text),
+                black_box(&mut out),
+            ))
+        },
+        || _ = black_box(&lea::decipher(black_box(key), black_box(&text))),
+    );
+    measure(
+        "schedule",
+        size,
+        || {
+            _ = black_box(bowlinette::round_keys(
+                black_box(key),
+                black_box(0),
+                black_box(&mut row),
+            ))
+        },
+        || _ = black_box(&lea::round_keys(black_box(key), black_box(0))),
+    );
+}
+
+fn main() {
+    println!("ns per call, the fastest of {RUNS} runs of each version");
+    let (key, ratio) = ("key bytes", "ratio");
+    println!(
+        "{:<12} {key:>9} {:>12} {:>12} {ratio:>8}",
+        "", "Rattle", "Rust"
+    );
+    for size in Size::ALL {
+        cipher(size);
+    }
+}
