@@ -6,7 +6,7 @@ use std::time::{Duration, Instant};
 
 /// How long one timed run of calls should last, and how many there are of each version.
 const RUN: Duration = Duration::from_micros(20);
-const RUNS: usize = 4_000;
+const RUNS: usize = 12_000;
 
 /// Nanoseconds per call over so many calls.
 fn timed(calls: u32, f: &mut impl FnMut()) -> f64 {
