@@ -1,7 +1,7 @@
 //! Times the proved library and the reference in one process and prints how they compare.
 
 use reference::{lea, Size};
-use std::hint::black_box;
+use std::hint::black_box as hide;
 use std::time::{Duration, Instant};
 
 /// How long one timed run of calls should last, and how many there are of each version.
@@ -49,38 +49,20 @@ fn cipher(size: Size) {
     measure(
         "encipher",
         size,
-        || {
-            _ = black_box(bowlinette::encipher(
-                black_box(key),
-                black_box(&text),
-                black_box(&mut out),
-            ))
-        },
-        || _ = black_box(&lea::encipher(black_box(key), black_box(&text))),
+        || _ = hide(bowlinette::encipher(hide(key), hide(&text), hide(&mut out))),
+        || _ = hide(&lea::encipher(hide(key), hide(&text))),
     );
     measure(
         "decipher",
         size,
-        || {
-            _ = black_box(bowlinette::decipher(
-                black_box(key),
-                black_box(&text),
-                black_box(&mut out),
-            ))
-        },
-        || _ = black_box(&lea::decipher(black_box(key), black_box(&text))),
+        || _ = hide(bowlinette::decipher(hide(key), hide(&text), hide(&mut out))),
+        || _ = hide(&lea::decipher(hide(key), hide(&text))),
     );
     measure(
         "schedule",
         size,
-        || {
-            _ = black_box(bowlinette::round_keys(
-                black_box(key),
-                black_box(0),
-                black_box(&mut row),
-            ))
-        },
-        || _ = black_box(&lea::round_keys(black_box(key), black_box(0))),
+        || _ = hide(bowlinette::round_keys(hide(key), hide(0), hide(&mut row))),
+        || _ = hide(&lea::round_keys(hide(key), hide(0))),
     );
 }
 
