@@ -42,7 +42,7 @@ fn measure(name: &str, size: Size, mut rattle: impl FnMut(), mut rust: impl FnMu
 /// Enciphering and deciphering from key and block, and a whole schedule: neither version knows which
 /// row will be asked for, so both make them all.
 fn cipher(size: Size) {
-    let key: Vec<u8> = (0..size.key_bytes() as u8).map(|i| 37 * i).collect();
+    let key: Vec<u8> = (0..size.key_bytes() as u8).map(|i| 7 * i).collect();
     let key = key.as_slice();
     let text: [u8; 16] = std::array::from_fn(|i| 11 * i as u8);
     let (mut out, mut row) = ([0; 16], [0; 6]);
