@@ -3,5 +3,7 @@ pub mod KeySizeLaws
 pub mod ScheduleLaws
 pub mod LeaLaws
 pub mod CmacLaws
+pub mod Permutation
+pub mod CodingLaws
 pub mod AnswerLaws
 pub mod Vectors

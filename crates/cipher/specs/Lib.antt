@@ -4,4 +4,5 @@ pub mod Word
 pub mod Schedule
 pub mod Lea
 pub mod Cmac
+pub mod Coding
 pub mod Answers
