@@ -1,12 +1,12 @@
 -- Laws of blocks by their half bytes: a block is made of them, xor goes through them, coding and decoding by a set of
 -- permutations undo each other, and the words of a block are its half bytes joined by eights.
 -- Assumes nothing.
-use mathlib.Core.Path.{_≡_, refl, sym, ap, _∙_}
+use mathlib.Core.Path.{_≡_, refl}
 use mathlib.Core.List.{List, [], _∷_}
-use Prim.Native.Nat.{ℕ, zero, suc, _+_, _*_, _/_, _%_, _^_, _<_}
+use Prim.Native.Nat.{ℕ, zero, suc, _+_, _*_, _/_, _%_, _<_}
 use native.Mathlib.Omega.{arith}
 use lib.Bits.{bitXor}
-use lib.ListN.{length, getD}
+use lib.ListN.{getD}
 use Rattle.lists.specs.Tabulation.{tab}
 use Rattle.lists.specs.Blocks.{Block, xorBlock}
 use Rattle.lists.specs.HalfBytes.{halfByte, joined}
@@ -15,7 +15,7 @@ use Rattle.lists.proofs.BlockLaws.{block-tab, xor-at}
 use Rattle.lists.proofs.HalfByteLaws.{half-lt, half-xor}
 use Rattle.cipher.specs.Word.{word, wordAt}
 use Rattle.cipher.specs.Schedule.{words4}
-use Rattle.cipher.specs.Coding.{Permutation, Set, Permutations, decode, blockHalf, ofHalves, coded, decoded}
+use Rattle.cipher.specs.Coding.{Set, Permutations, decode, blockHalf, ofHalves, coded, decoded}
 use Rattle.cipher.proofs.Permutation.{decode-lt, decode-code, code-decode, decode-ext}
 
 -- half bytes of a whole block

@@ -5,5 +5,10 @@ pub mod LeaLaws
 pub mod CmacLaws
 pub mod Permutation
 pub mod CodingLaws
+pub mod RippleAdd
+pub mod TurnDigits
+pub mod RoundLaw
+pub mod RoundsLaw
+pub mod FoldLaw
 pub mod AnswerLaws
 pub mod Vectors

@@ -5,4 +5,5 @@ pub mod Schedule
 pub mod Lea
 pub mod Cmac
 pub mod Coding
+pub mod Tables
 pub mod Answers
