@@ -10,5 +10,6 @@ pub mod TurnDigits
 pub mod RoundLaw
 pub mod RoundsLaw
 pub mod FoldLaw
+pub mod ChainTests
 pub mod AnswerLaws
 pub mod Vectors

@@ -36,9 +36,13 @@ Set = ℕ → ℕ → ℕ → ℕ
 abbrev pub Permutations : Set → Type 0
 Permutations S = (w j : ℕ) → w < 4 → j < 8 → Permutation (S w j)
 
--- the set whose codings lie in s one after another: 16 bytes each, coding 8w + j for half byte j of word w
+-- the codings that lie in s one after another, 16 bytes each: the image of v by coding k
+abbrev pub codingAt : List ℕ → ℕ → ℕ → ℕ
+codingAt s k v = getD s (16 * k + v) 0
+
+-- the set that they make: coding 8w + j serves half byte j of word w
 abbrev pub setOf : List ℕ → Set
-setOf s w j v = getD s (16 * (8 * w + j) + v) 0
+setOf s w j = codingAt s (8 * w + j)
 
 -- half byte j of word w of a block: half byte p = 8w + j is in byte p / 2, in its low half if p is even
 unfoldable pub blockHalf : List ℕ → ℕ → ℕ → ℕ

@@ -6,4 +6,5 @@ pub mod Lea
 pub mod Cmac
 pub mod Coding
 pub mod Tables
+pub mod Chain
 pub mod Answers

@@ -5,3 +5,4 @@ pub mod BlockLaws
 pub mod HalfByteLaws
 pub mod XorLaws
 pub mod RefusalLaws
+pub mod EveryLaws

@@ -2,3 +2,4 @@ pub mod Tabulation
 pub mod Blocks
 pub mod HalfBytes
 pub mod Refusals
+pub mod Every

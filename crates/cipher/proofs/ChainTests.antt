@@ -1,0 +1,240 @@
+-- The tests of sets and chains say what they should, both ways: each is passed exactly where its rule holds, so the tests
+-- 2 to 5 let through the valid chains and no others.
+-- Assumes nothing.
+use mathlib.Core.Path.{_≡_, refl, sym, ap, _∙_, subst}
+use mathlib.Core.Bool.{Bool, true, false, not, cond, _&&_}
+use mathlib.Core.List.{List}
+use Prim.Native.Nat.{ℕ, zero, suc, _+_, _*_, _/_, _%_, _≤_, _<_}
+use native.Mathlib.Decide.{decLt, ℕ-discrete}
+use native.Mathlib.Omega.{arith}
+use borrow.Author.Tests.{ltb-true, lt-ltb, eqb-true, eq-eqb, ne-eqb, eqb-false, not-true, not-false}
+use lib.Dec.{ltb, eqb, lit<}
+use lib.ListN.{length, getD, take, drop}
+use lib.Seq.{getD-drop, getD-take, length-take-le}
+use Rattle.lists.specs.Every.{every}
+use Rattle.lists.proofs.EveryLaws.{and-true, true-and, every-all, all-every}
+use Rattle.lists.proofs.RefusalLaws.{Clear}
+use Rattle.cipher.specs.KeySize.{rounds, chainLength}
+use Rattle.cipher.specs.Coding.{OneToOne, Permutation, Permutations, codingAt, setOf}
+use Rattle.cipher.specs.Chain.{setLength, roundBytes, maskAt, maskIn, roundCodings, CodingRule, WordRule, MaskRule, Chain, LoneSet, isOneToOne, arePermutations, codingRuleHolds, wordByte, wordRuleHolds, maskLimit, maskRuleHolds, setTests, chainTests}
+use Rattle.cipher.specs.declared.size.KeySize.{KeySize}
+use Rattle.cipher.proofs.CodingLaws.{Agree}
+use Rattle.cipher.proofs.RoundLaw.{ValidRound}
+
+hold : (b : Bool) → b ≡ true → not b ≡ false
+hold b e = rw e
+
+-- ---- one coding
+
+pub one-tested : (n m : ℕ) (f : ℕ → ℕ) → isOneToOne n m f ≡ true → OneToOne n m f
+unfolding isOneToOne
+one-tested n m f t = record { low = λ i h. ltb-true (f i) m (both i h .0); once = λ i k h l e. once i k h l e (decLt i k) (decLt k i) }
+  where
+    both : (i : ℕ) → i < n → (ltb (f i) m ≡ true) × (every i (λ k. not (eqb (f k) (f i))) ≡ true)
+    both i h =
+        and-true (ltb (f i) m) (every i (λ k. not (eqb (f k) (f i))))
+        (every-all n (λ i. ltb (f i) m && every i (λ k. not (eqb (f k) (f i)))) t i h)
+
+    apart : (k i : ℕ) → k < i → i < n → f k ≡ f i → ⊥
+    apart k i l h e =
+        eqb-false (f k) (f i) (not-true (eqb (f k) (f i)) (every-all i (λ k. not (eqb (f k) (f i))) (both i h .1) k l)) e
+
+    once : (i k : ℕ) → i < n → k < n → f i ≡ f k → Dec (i < k) → Dec (k < i) → i ≡ k
+    once i k h l e (yes a) d = absurd (apart i k a l e)
+    once i k h l e (no a) (yes d) = absurd (apart k i d h (sym e))
+    once i k h l e (no a) (no d) = omega arith
+
+pub tested-one : (n m : ℕ) (f : ℕ → ℕ) → OneToOne n m f → isOneToOne n m f ≡ true
+unfolding isOneToOne
+tested-one n m f h =
+    all-every n (λ i. ltb (f i) m && every i (λ k. not (eqb (f k) (f i)))) (λ i l.
+    true-and (ltb (f i) m) (every i (λ k. not (eqb (f k) (f i)))) (lt-ltb (f i) m (h .low i l))
+    (all-every i (λ k. not (eqb (f k) (f i))) (λ k g.
+    ap not (ne-eqb (f k) (f i) (λ e.
+    let z = h .once k i (omega arith) l e in
+    omega arith)))))
+
+-- ---- the first n codings
+
+module _ (n : ℕ) (s : List ℕ) where
+  pub permutations-tested : arePermutations n s ≡ true → (k : ℕ) → k < n → Permutation (codingAt s k)
+  unfolding arePermutations
+  permutations-tested t k h = one-tested 16 16 (codingAt s k) (every-all n (λ k. isOneToOne 16 16 (codingAt s k)) t k h)
+
+  pub tested-permutations : ((k : ℕ) → k < n → Permutation (codingAt s k)) → arePermutations n s ≡ true
+  unfolding arePermutations
+  tested-permutations h = all-every n (λ k. isOneToOne 16 16 (codingAt s k)) (λ k l. tested-one 16 16 (codingAt s k) (h k l))
+
+-- coding k by word and half byte
+place : (k : ℕ) → 8 * (k / 8) + k % 8 ≡ k
+place k = omega arith
+
+-- ---- a lone set
+
+pub set-tested : (s : List ℕ) → Clear (setTests s) → LoneSet s
+unfolding setTests
+set-tested s c = record {
+  size = eqb-true (length s) setLength (not-false (eqb (length s) setLength) (c .0));
+  codings = λ w j hw hj. permutations-tested 32 s (not-false (arePermutations 32 s) (c .1 .0)) (8 * w + j) (omega arith);
+}
+
+pub tested-set : (s : List ℕ) → LoneSet s → Clear (setTests s)
+unfolding setTests
+tested-set s h =
+    let p = tested-permutations 32 s (λ k l. subst (λ (n : ℕ). Permutation (codingAt s n)) (place k) (h .codings (k / 8) (k % 8) (omega arith) (omega arith))) in
+    (hold (eqb (length s) setLength) (eq-eqb (length s) setLength (h .size)), (hold (arePermutations 32 s) p, tt))
+
+-- ---- a chain
+
+-- coding k of set l is a coding of the chain
+coding-in : (ch : List ℕ) (l k : ℕ) → codingAt (drop (setLength * suc l) ch) k ≡ codingAt ch (32 * suc l + k)
+coding-in ch l k = λ i v. at v i
+  where
+    at : (v : ℕ) → codingAt (drop (setLength * suc l) ch) k v ≡ codingAt ch (32 * suc l + k) v
+    at v =
+        let e : setLength * suc l + (16 * k + v) ≡ 16 * (32 * suc l + k) + v = omega arith in
+        getD-drop (setLength * suc l) ch (16 * k + v) 0 ∙ ap (λ (n : ℕ). getD ch n 0) e
+
+module _ (r : ℕ) (ch : List ℕ) where
+  pub codings-tested : codingRuleHolds r ch ≡ true → CodingRule r ch
+  unfolding codingRuleHolds
+  codings-tested t =
+      let d = and-true (arePermutations (32 * (r + 2)) ch) (every r (λ l. arePermutations 24 (roundBytes r ch l))) t in
+      let all = permutations-tested (32 * (r + 2)) ch (d .0) in
+      record {
+        message = λ w j hw hj. all (8 * w + j) (omega arith);
+        sets = λ l h w j hw hj. subst (λ (f : ℕ → ℕ). Permutation f) (sym (coding-in ch l (8 * w + j))) (all (32 * suc l + (8 * w + j)) (omega arith));
+        middles = λ l i j hl hi hj. permutations-tested 24 (roundBytes r ch l)
+            (every-all r (λ l. arePermutations 24 (roundBytes r ch l)) (d .1) l hl) (8 * i + j) (omega arith);
+      }
+
+  pub tested-codings : CodingRule r ch → codingRuleHolds r ch ≡ true
+  unfolding codingRuleHolds
+  tested-codings h =
+      true-and (arePermutations (32 * (r + 2)) ch) (every r (λ l. arePermutations 24 (roundBytes r ch l)))
+      (tested-permutations (32 * (r + 2)) ch (λ k l. one k l (k / 32) refl))
+      (all-every r (λ l. arePermutations 24 (roundBytes r ch l)) (λ l hl.
+      tested-permutations 24 (roundBytes r ch l) (λ k hk.
+      subst (λ (n : ℕ). Permutation (codingAt (roundBytes r ch l) n)) (place k) (h .middles l (k / 8) (k % 8) hl (omega arith) (omega arith)))))
+    where
+      one : (k : ℕ) → k < 32 * (r + 2) → (m : ℕ) → k / 32 ≡ m → Permutation (codingAt ch k)
+      one k l zero e = subst (λ (n : ℕ). Permutation (codingAt ch n)) (place k) (h .message (k / 8) (k % 8) (omega arith) (omega arith))
+      one k l (suc m) e =
+          let a : 32 * suc m + (8 * (k / 8 % 4) + k % 8) ≡ k = omega arith in
+          subst (λ (f : ℕ → ℕ). Permutation f) (coding-in ch m (8 * (k / 8 % 4) + k % 8) ∙ ap (λ (n : ℕ). codingAt ch n) a)
+          (h .sets m (omega arith) (k / 8 % 4) (k % 8) (omega arith) (omega arith))
+
+  pub word-tested : wordRuleHolds r ch ≡ true → WordRule r ch
+  unfolding wordRuleHolds
+  word-tested t l j v hl hj hv =
+      let e = eqb-true (wordByte ch (suc l) 3 (16 * j + v)) (wordByte ch l 0 (16 * j + v))
+      (every-all 128 (λ k. eqb (wordByte ch (suc l) 3 k) (wordByte ch l 0 k))
+      (every-all r (λ l. every 128 (λ k. eqb (wordByte ch (suc l) 3 k) (wordByte ch l 0 k))) t l hl) (16 * j + v) (omega arith)) in
+      let a : 16 * (8 * 3 + j) + v ≡ 128 * 3 + (16 * j + v) = omega arith in
+      let b : 16 * (8 * 0 + j) + v ≡ 128 * 0 + (16 * j + v) = omega arith in
+      ap (λ (n : ℕ). getD (drop (setLength * suc (suc l)) ch) n 0) a ∙ e ∙ ap (λ (n : ℕ). getD (drop (setLength * suc l) ch) n 0) (sym b)
+
+  pub tested-word : WordRule r ch → wordRuleHolds r ch ≡ true
+  unfolding wordRuleHolds
+  tested-word h =
+      all-every r (λ l. every 128 (λ k. eqb (wordByte ch (suc l) 3 k) (wordByte ch l 0 k))) (λ l hl.
+      all-every 128 (λ k. eqb (wordByte ch (suc l) 3 k) (wordByte ch l 0 k)) (λ k hk.
+      let a : 16 * (8 * 3 + k / 16) + k % 16 ≡ 128 * 3 + k = omega arith in
+      let b : 16 * (8 * 0 + k / 16) + k % 16 ≡ 128 * 0 + k = omega arith in
+      eq-eqb (wordByte ch (suc l) 3 k) (wordByte ch l 0 k)
+      (ap (λ (n : ℕ). getD (drop (setLength * suc (suc l)) ch) n 0) (sym a)
+      ∙ h l (k / 16) (k % 16) hl (omega arith) (omega arith)
+      ∙ ap (λ (n : ℕ). getD (drop (setLength * suc l) ch) n 0) b)))
+
+  limit-le : (k : ℕ) → maskLimit k ≤ 2
+  limit-le k = go (eqb (k % 8) 0)
+    where
+      go : (b : Bool) → cond b 1 2 ≤ 2
+      go true = omega arith
+      go false = omega arith
+
+  pub masks-tested : maskRuleHolds r ch ≡ true → MaskRule r ch
+  unfolding maskRuleHolds
+  masks-tested t = record {
+    bits = λ l i j hl hi hj. bit l i j hl hi hj;
+    firsts = λ l i hl hi. start l i hl hi;
+  }
+    where
+      under : (l k : ℕ) → l < r → k < 24 → maskAt r ch l k < maskLimit k
+      under l k hl hk =
+          ltb-true (maskAt r ch l k) (maskLimit k)
+          (every-all 24 (λ k. ltb (maskAt r ch l k) (maskLimit k)) (every-all r (λ l. every 24 (λ k. ltb (maskAt r ch l k) (maskLimit k))) t l hl) k hk)
+
+      bit : (l i j : ℕ) → l < r → i < 3 → j < 8 → maskIn r ch l i j < 2
+      bit l i j hl hi hj = omega (arith, under l (8 * i + j) hl (omega arith), limit-le (8 * i + j))
+
+      start : (l i : ℕ) → l < r → i < 3 → maskIn r ch l i 0 ≡ 0
+      start l i hl hi =
+          let e : maskLimit (8 * i + 0) ≡ 1 = rw (eq-eqb ((8 * i + 0) % 8) 0 (omega arith)) in
+          let u = under l (8 * i + 0) hl (omega arith) in
+          omega arith
+
+  pub tested-masks : MaskRule r ch → maskRuleHolds r ch ≡ true
+  unfolding maskRuleHolds
+  tested-masks h =
+      all-every r (λ l. every 24 (λ k. ltb (maskAt r ch l k) (maskLimit k))) (λ l hl.
+      all-every 24 (λ k. ltb (maskAt r ch l k) (maskLimit k)) (λ k hk.
+      lt-ltb (maskAt r ch l k) (maskLimit k) (under l k hl hk (ℕ-discrete (k % 8) 0))))
+    where
+      under : (l k : ℕ) → l < r → k < 24 → Dec (k % 8 ≡ 0) → maskAt r ch l k < maskLimit k
+      under l k hl hk (yes e) =
+          let a : 8 * (k / 8) + 0 ≡ k = omega arith in
+          let b = h .firsts l (k / 8) hl (omega arith) in
+          rw (eq-eqb (k % 8) 0 e) (subst (λ (n : ℕ). maskAt r ch l n < 1) a (rw b (lit< tt)))
+      under l k hl hk (no e) =
+          rw (ne-eqb (k % 8) 0 e)
+          (subst (λ (n : ℕ). maskAt r ch l n < 2) (place k) (h .bits l (k / 8) (k % 8) hl (omega arith) (omega arith)))
+
+  -- what a round of the tables asks of the chain
+  pub valid-round : CodingRule r ch → WordRule r ch → MaskRule r ch → (l : ℕ) → l < r → ValidRound (roundCodings r ch l)
+  unfolding roundCodings
+  valid-round c w m l h = record {
+    before-permute = c .sets l (omega arith);
+    after-permute = c .sets (suc l) h;
+    middle-permute = λ i j. c .middles l i j h;
+    word3 = λ j v. w l j v h;
+    mask-bit = λ i j. m .bits l i j h;
+    mask-first = λ i. m .firsts l i h;
+    mask-next = λ i j hi hj. refl;
+  }
+
+-- the tests 2 to 5 let through the valid chains and no others
+pub chain-tested : (z : KeySize) (ch : List ℕ) → Clear (chainTests z ch) → Chain z ch
+unfolding chainTests
+chain-tested z ch c = record {
+  size = eqb-true (length ch) (chainLength z) (not-false (eqb (length ch) (chainLength z)) (c .0));
+  codings = codings-tested (rounds z) ch (not-false (codingRuleHolds (rounds z) ch) (c .1 .0));
+  word3 = word-tested (rounds z) ch (not-false (wordRuleHolds (rounds z) ch) (c .1 .1 .0));
+  masks = masks-tested (rounds z) ch (not-false (maskRuleHolds (rounds z) ch) (c .1 .1 .1 .0));
+}
+
+pub tested-chain : (z : KeySize) (ch : List ℕ) → Chain z ch → Clear (chainTests z ch)
+unfolding chainTests
+tested-chain z ch h = (
+  hold (eqb (length ch) (chainLength z)) (eq-eqb (length ch) (chainLength z) (h .size)),
+  (
+    hold (codingRuleHolds (rounds z) ch) (tested-codings (rounds z) ch (h .codings)),
+    (
+      hold (wordRuleHolds (rounds z) ch) (tested-word (rounds z) ch (h .word3)),
+      (hold (maskRuleHolds (rounds z) ch) (tested-masks (rounds z) ch (h .masks)), tt),
+    ),
+  ),
+)
+
+-- a set cut out of a chain is a lone set, and the same as in its place
+pub lone-agree : (s : List ℕ) → Agree (setOf (take setLength s)) (setOf s)
+lone-agree s w j v hw hj hv = getD-take setLength s (16 * (8 * w + j) + v) 0 (omega arith)
+
+pub lone-set : (s : List ℕ) → setLength ≤ length s → Permutations (setOf s) → LoneSet (take setLength s)
+lone-set s h p = record {
+  size = length-take-le setLength s h;
+  codings = λ w j hw hj. record {
+    low = λ v hv. rw (lone-agree s w j v hw hj hv) (p w j hw hj .low v hv);
+    once = λ v u hv hu e. p w j hw hj .once v u hv hu (sym (lone-agree s w j v hw hj hv) ∙ e ∙ lone-agree s w j u hw hj hu);
+  };
+}
