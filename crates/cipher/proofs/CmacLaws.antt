@@ -1,23 +1,22 @@
--- Laws of doubling, by the cases of the code, and of the chain, block by block.
+-- Laws of doubling, by the cases of the code; a double is a block.
 -- Assumes nothing.
-use mathlib.Core.Path.{_≡_, refl, sym, ap, ap₂, _∙_}
-use Prim.Native.Nat.{ℕ, zero, suc, _+_, _*_, _≤_, _<_}
+use mathlib.Core.Path.{_≡_, ap, _∙_}
+use mathlib.Core.Bool.{Bool, true, false, cond}
+use Prim.Native.Nat.{ℕ, _+_, _≤_, _<_}
 use mathlib.Core.List.{List, [], _∷_, _++_, append-nil}
-use native.Mathlib.Numerals.{add-one}
+use native.Mathlib.Decide.{decLt}
 use native.Mathlib.Omega.{arith}
 use borrow.Author.Tests.{le-leb, lt-leb}
-use lib.Bits.{bitXor, xor-zero-r}
-use lib.ListN.{getD, set, replicate, take, drop}
+use lib.Bits.{bitXor, xor-lt, xor-zero-r}
+use lib.Dec.{leb, lit<}
+use lib.ListN.{length, getD, set, replicate, length-append, List·getD-append}
+use lib.Seq.{getD-at}
 use Rattle.lists.specs.Tabulation.{tab}
-use Rattle.lists.specs.Blocks.{Bytes, Block, xorBlock, cut}
-use Rattle.lists.proofs.BlockLaws.{bytes-take, block-xor, cut-more}
 use Rattle.lists.proofs.PartLaws.{fill-more}
-use Rattle.lists.proofs.TabulationLaws.{length-tab}
-use Rattle.cipher.specs.Word.{xorWords}
-use Rattle.cipher.specs.Schedule.{words4}
-use Rattle.cipher.specs.Lea.{forward, firstRounds}
-use Rattle.cipher.specs.Cmac.{shifted, double, chained}
-use Rattle.cipher.proofs.LeaLaws.{forward-words, words-bytes, words-take, words-xor, words-four, block-rounds}
+use Rattle.lists.specs.Blocks.{Block}
+use Rattle.lists.proofs.BlockLaws.{bytes-of}
+use Rattle.lists.proofs.TabulationLaws.{length-tab, getD-tab}
+use Rattle.cipher.specs.Cmac.{shifted, double}
 
 -- bytes 0 to 14 of a double
 abbrev pub rule : List ℕ → ℕ → ℕ
@@ -40,34 +39,25 @@ module _ (b d : List ℕ) (e : d ≡ tab 15 (rule b) ++ replicate 1 0) (v : ℕ)
   unfolding double
   double-low h = last b d v e ∙ rw (w, lt-leb 128 (getD b 0 0) h, xor-zero-r)
 
--- ---- the chain
+-- a double is a block, whatever was doubled
+pub block-double : (b : List ℕ) → Block (double b)
+unfolding double
+block-double b = record { size = size; bytes = bytes-of (tab 15 (rule b) ++ (v ∷ [])) (λ k h. at k (rw size at h) (decLt k 15)) }
+  where
+    v : ℕ
+    v = bitXor (shifted (getD b 15 0) 0) (cond (leb 128 (getD b 0 0)) 0x87 0)
 
--- one block more
-chained-last : (cipher : List ℕ → List ℕ) (x : List ℕ) (bs : List (List ℕ)) (b : List ℕ)
-    → chained cipher x (bs ++ (b ∷ [])) ≡ cipher (xorBlock (chained cipher x bs) b)
-unfolding chained
-chained-last cipher x [] b = refl
-chained-last cipher x (c ∷ bs) b = chained-last cipher (cipher (xorBlock x c)) bs b
+    size : length (tab 15 (rule b) ++ (v ∷ [])) ≡ 16
+    size = length-append (tab 15 (rule b)) (v ∷ []) ∙ rw (length-tab 15 (rule b))
 
-pub chained-more : (cipher : List ℕ → List ℕ) (x t : List ℕ) (k : ℕ)
-    → chained cipher x (cut (k + 1) t) ≡ cipher (xorBlock (chained cipher x (cut k t)) (take 16 (drop (16 * k) t)))
-chained-more cipher x t k =
-    ap (chained cipher x) (ap (λ (n : ℕ). cut n t) (add-one k) ∙ cut-more k t) ∙ chained-last cipher x (cut k t) (take 16 (drop (16 * k) t))
+    bit-lt : (t : Bool) → cond t 0x87 0 < 256
+    bit-lt true = lit< tt
+    bit-lt false = lit< tt
 
-module _ (rows : List (List ℕ)) (r : ℕ) where
-  pub chained-block : (x : List ℕ) (bs : List (List ℕ)) → Block x → Block (chained (firstRounds rows r) x bs)
-  unfolding chained
-  chained-block x [] h = h
-  chained-block x (b ∷ bs) h = chained-block (firstRounds rows r (xorBlock x b)) bs (block-rounds rows r (xorBlock x b))
-
-  -- a turn of the loop, in words: X is the chaining value so far and t the text from the block on
-  pub chain-turn : (X t x m y : List ℕ) → Block X → Bytes t → x ≡ words4 X → m ≡ words4 t → y ≡ forward rows r (xorWords x m)
-      → y ≡ words4 (firstRounds rows r (xorBlock X (take 16 t)))
-  unfolding firstRounds
-  chain-turn X t x m y hX ht ex em ey =
-      let low = bytes-take 16 t ht in
-      let e : xorWords x m ≡ words4 (xorBlock X (take 16 t)) =
-      ap₂ xorWords ex (em ∙ sym (words-take t)) ∙ sym (words-xor X (take 16 t) (hX .bytes) low) in
-      ey
-      ∙ ap (forward rows r) e
-      ∙ sym (words-bytes (forward-words rows r (words-four (xorBlock X (take 16 t)) (block-xor X (take 16 t) (hX .bytes) low .bytes))))
+    at : (k : ℕ) → k < 16 → Dec (k < 15) → getD (tab 15 (rule b) ++ (v ∷ [])) k 0 < 256
+    at k h (yes l) =
+        rw (List·getD-append (tab 15 (rule b)) (v ∷ []) 0 k (rw (length-tab 15 (rule b)) l), getD-tab 15 (rule b) k l) (omega arith)
+    at k h (no l) =
+        let e : k ≡ 15 = omega arith in
+        rw (e, getD-at (tab 15 (rule b)) v [] 0 15 (length-tab 15 (rule b)))
+        (xor-lt 8 (shifted (getD b 15 0) 0) (cond (leb 128 (getD b 0 0)) 0x87 0) (omega arith) (bit-lt (leb 128 (getD b 0 0))))

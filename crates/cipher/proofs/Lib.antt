@@ -3,6 +3,7 @@ pub mod KeySizeLaws
 pub mod ScheduleLaws
 pub mod LeaLaws
 pub mod CmacLaws
+pub mod ChainingLaws
 pub mod Permutation
 pub mod CodingLaws
 pub mod RippleAdd
@@ -11,5 +12,6 @@ pub mod RoundLaw
 pub mod RoundsLaw
 pub mod FoldLaw
 pub mod ChainTests
+pub mod BookLaw
 pub mod AnswerLaws
 pub mod Vectors

@@ -7,4 +7,5 @@ pub mod Cmac
 pub mod Coding
 pub mod Tables
 pub mod Chain
+pub mod Book
 pub mod Answers

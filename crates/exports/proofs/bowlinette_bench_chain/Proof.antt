@@ -12,7 +12,7 @@ use Rattle.cipher.specs.Cmac.{chained}
 use Rattle.cipher.specs.declared.size.KeySize.{KeySize}
 use Rattle.cipher.proofs.KeySizeLaws.{found-length}
 use Rattle.cipher.proofs.LeaLaws.{bytes-words}
-use Rattle.cipher.proofs.CmacLaws.{chained-block}
+use Rattle.cipher.proofs.ChainingLaws.{chained-block}
 use Rattle.cipher.proofs.AnswerLaws.{key-refused, key-taken}
 use Rattle.exports.specs.Into.{into}
 use Rattle.exports.proofs.bowlinette_bench_chain.Statement.{statement}

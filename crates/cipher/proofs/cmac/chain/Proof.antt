@@ -15,7 +15,7 @@ use Rattle.cipher.specs.Lea as L
 use Rattle.cipher.specs.Cmac as C
 use Rattle.cipher.proofs.KeySizeLaws.{rounds-le, rounds-fours}
 use Rattle.cipher.proofs.LeaLaws.{forward-four, words-zeros}
-use Rattle.cipher.proofs.CmacLaws.{chained-more, chained-block, chain-turn}
+use Rattle.cipher.proofs.ChainingLaws.{chained-more, chained-block, chain-turn}
 use Rattle.cipher.proofs.cmac.chain.Statement.{statement}
 use Rattle.cipher.proofs.cmac.chain.Tie as tie
 
