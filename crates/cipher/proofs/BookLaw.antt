@@ -1,35 +1,21 @@
--- The book of rows and a chain holds at each offset the byte that it should; and what a book does, decoded: its start is the
--- zero block, its rounds are LEA's, its folds are xors.
+-- The book of rows and a chain holds at each offset the byte that it should; and what is said of these bytes leaves none
+-- of them open: it is said of one list alone.
 -- Assumes nothing.
 use mathlib.Core.Path.{_≡_, refl, sym, ap, _∙_}
 use mathlib.Core.List.{List, [], _++_}
-use Prim.Native.Nat.{ℕ, zero, suc, _+_, _*_, _/_, _%_, _≤_, _<_}
-use native.Mathlib.Nat.{le-refl}
+use Prim.Native.Nat.{ℕ, _+_, _-_, _*_, _/_, _%_, _≤_, _<_}
+use native.Mathlib.Decide.{decLt}
 use native.Mathlib.Omega.{arith}
 use lib.ListN.{length, getD, length-append, List·getD-append}
-use lib.Seq.{getD-drop, getD-append-add, take-at}
+use lib.Seq.{ext-getD, getD-drop, getD-take, take-at}
 use Rattle.lists.specs.Tabulation.{chunks}
-use Rattle.lists.specs.Blocks.{Block, zeros, xorBlock}
 use Rattle.lists.proofs.TabulationLaws.{length-tab, getD-tab}
-use Rattle.lists.proofs.ChunkLaws.{length-chunks, getD-chunks}
-use Rattle.lists.proofs.BlockLaws.{block-zeros}
-use Rattle.cipher.specs.KeySize.{rounds}
+use Rattle.lists.proofs.ChunkLaws.{length-chunks, getD-chunks, getD-second}
 use Rattle.cipher.specs.Lea.{firstRounds}
-use Rattle.cipher.specs.Cmac.{subkey1, subkey2}
-use Rattle.cipher.specs.Coding.{Set, ofHalves, coded, decoded}
-use Rattle.cipher.specs.Tables.{RoundCodings, RoundTables, FoldTables, addTable, turnTable, foldTable, addAt, turnAt, tableRounds, tableFold}
-use Rattle.cipher.specs.Chain.{messageSet, chainSet, roundCodings, Chain}
-use Rattle.cipher.specs.Book.{startPart, addPart, turnPart, roundPart, foldPart, groupPart, groupKey, bookGroup, bookRound, bookOf, startLength, groupLength, roundLength, roundsStart, startOf, groupAt, roundAt, Book}
-use Rattle.cipher.specs.declared.size.KeySize.{KeySize}
-use Rattle.cipher.proofs.CmacLaws.{block-double}
-use Rattle.cipher.proofs.CodingLaws.{decoded-coded}
-use Rattle.cipher.proofs.RoundsLaw.{rounds-law}
-use Rattle.cipher.proofs.FoldLaw.{fold-law}
-use Rattle.cipher.proofs.ChainTests.{valid-round}
-
--- element i of the second of two lists
-second : (a b : List ℕ) (n i k : ℕ) → length a ≡ n → n + i ≡ k → getD (a ++ b) k 0 ≡ getD b i 0
-second a b n i k e h = ap (λ (m : ℕ). getD (a ++ b) m 0) (sym h ∙ ap (λ (m : ℕ). m + i) (sym e)) ∙ getD-append-add a b i 0
+use Rattle.cipher.specs.Coding.{Set, ofHalves, coded}
+use Rattle.cipher.specs.Tables.{RoundCodings, RoundTables, FoldTables, addTable, turnTable, foldTable, addAt, turnAt}
+use Rattle.cipher.specs.Chain.{messageSet, chainSet, roundCodings}
+use Rattle.cipher.specs.Book.{startPart, addPart, turnPart, roundPart, foldPart, groupPart, groupKey, bookGroup, bookRound, bookOf, startLength, groupLength, roundLength, roundsStart, groupAt, roundAt, Book}
 
 -- ---- lengths
 
@@ -72,7 +58,7 @@ module _ (c : RoundCodings) (k : List ℕ) where
       turn i j n hi hj hn =
           let a : (8 * i + j) / 8 ≡ i = omega arith in
           let b : (8 * i + j) % 8 ≡ j = omega arith in
-          second (chunks 24 (addPart c k)) (chunks 24 (turnPart c)) 12288 ((8 * i + j) * 256 + n) (12288 + 256 * (8 * i + j) + n) adds-size (omega arith)
+          getD-second (chunks 24 (addPart c k)) (chunks 24 (turnPart c)) 12288 ((8 * i + j) * 256 + n) (12288 + 256 * (8 * i + j) + n) adds-size (omega arith)
           ∙ getD-chunks (turnPart c) 256 turn-size 24 (8 * i + j) n (omega arith) hn
           ∙ getD-tab 256 (turnTable c ((8 * i + j) / 8) ((8 * i + j) % 8)) n hn
           ∙ rw (a, b)
@@ -152,7 +138,7 @@ module _ (r : ℕ) (rows : List (List ℕ)) (ch : List ℕ) where
   unfolding bookOf groups last
   group-byte g i hg hi =
       getD-drop (startLength + groupLength * g) (bookOf r rows ch) i 0
-      ∙ second (startPart r ch) (groups ++ last) startLength (g * groupLength + i) (startLength + groupLength * g + i) start-size (omega arith)
+      ∙ getD-second (startPart r ch) (groups ++ last) startLength (g * groupLength + i) (startLength + groupLength * g + i) start-size (omega arith)
       ∙ List·getD-append groups last 0 (g * groupLength + i) (rw groups-size (omega arith))
       ∙ getD-chunks (bookGroup r rows ch) groupLength each-group 3 g i hg hi
 
@@ -160,8 +146,8 @@ module _ (r : ℕ) (rows : List (List ℕ)) (ch : List ℕ) where
   unfolding bookOf groups last
   round-byte l i hl hi =
       getD-drop (roundsStart + roundLength * l) (bookOf r rows ch) i 0
-      ∙ second (startPart r ch) (groups ++ last) startLength (24576 + (l * roundLength + i)) (roundsStart + roundLength * l + i) start-size (omega arith)
-      ∙ second groups last 24576 (l * roundLength + i) (24576 + (l * roundLength + i)) groups-size refl
+      ∙ getD-second (startPart r ch) (groups ++ last) startLength (24576 + (l * roundLength + i)) (roundsStart + roundLength * l + i) start-size (omega arith)
+      ∙ getD-second groups last 24576 (l * roundLength + i) (24576 + (l * roundLength + i)) groups-size refl
       ∙ getD-chunks (bookRound r rows ch) roundLength each-round r l i hl hi
 
   pub book-made : Book r rows ch (bookOf r rows ch)
@@ -175,43 +161,73 @@ module _ (r : ℕ) (rows : List (List ℕ)) (ch : List ℕ) where
         (unfold bookRound in round-made (roundCodings r ch l) (getD rows l []));
   }
 
--- ---- what a book does, decoded
+-- ---- the byte at each offset
 
-pub block-key : (E : List ℕ → List ℕ) (g : ℕ) → Block (groupKey E g)
-unfolding groupKey subkey1 subkey2
-block-key E zero = block-zeros
-block-key E (suc zero) = block-double (E zeros)
-block-key E (suc (suc g)) = block-double (subkey1 E)
+module _ (r : ℕ) (rows : List (List ℕ)) (ch bk : List ℕ) (h : Book r rows ch bk) where
+  pub byte-of-start : (k : ℕ) → k < startLength → getD bk k 0 ≡ getD (startPart r ch) k 0
+  byte-of-start k l = sym (getD-take startLength bk k 0 l) ∙ ap (λ (s : List ℕ). getD s k 0) (h .start)
 
-module _ (z : KeySize) (rows : List (List ℕ)) (ch bk : List ℕ) (v : Chain z ch) (h : Book (rounds z) rows ch bk) where
-  -- the start is the zero block
-  pub book-start : decoded (chainSet ch (rounds z)) (startOf bk) ≡ zeros
-  unfolding startPart
-  book-start =
-      ap (decoded (chainSet ch (rounds z))) (h .start)
-      ∙ decoded-coded (chainSet ch (rounds z)) (v .codings .sets (rounds z) (le-refl (rounds z))) zeros block-zeros
+  pub byte-of-fold : (g w j n : ℕ) → g < 3 → w < 4 → j < 8 → n < 256
+      → getD bk (startLength + groupLength * g + (256 * (8 * w + j) + n)) 0
+      ≡ foldTable (chainSet ch r) (messageSet ch) (chainSet ch 0) (groupKey (firstRounds rows r) g) w j n
+  byte-of-fold g w j n hg hw hj hn =
+      sym (getD-drop (startLength + groupLength * g) bk (256 * (8 * w + j) + n) 0) ∙ h .folds g hg w j n hw hj hn
 
-  -- n rounds, decoded by set n, are n rounds of LEA on the bytes decoded by set 0
-  pub book-rounds : (b : List ℕ) (n : ℕ) → n ≤ rounds z
-      → decoded (chainSet ch n) (tableRounds (roundAt bk) n b) ≡ firstRounds rows n (decoded (chainSet ch 0) b)
-  book-rounds b n l =
-      rounds-law (rounds z) (chainSet ch) (roundCodings (rounds z) ch) rows (roundAt bk)
-      (λ l. unfold roundCodings in refl) (λ l. unfold roundCodings in refl)
-      (valid-round (rounds z) ch (v .codings) (v .word3) (v .masks)) (h .tables) b n l (v .codings .sets n l)
+  pub byte-of-add : (l i j n : ℕ) → l < r → i < 3 → j < 8 → n < 512
+      → getD bk (roundsStart + roundLength * l + (512 * (8 * i + j) + n)) 0 ≡ addTable (roundCodings r ch l) (getD rows l []) i j n
+  byte-of-add l i j n hl hi hj hn =
+      sym (getD-drop (roundsStart + roundLength * l) bk (512 * (8 * i + j) + n) 0) ∙ h .tables l hl .adds i j n hi hj hn
 
-  -- a fold by group g, decoded by set 0, is a xor
-  pub book-fold : (g : ℕ) → g < 3 → (x m : List ℕ)
-      → decoded (chainSet ch 0) (tableFold (groupAt bk g) x m)
-      ≡ xorBlock (xorBlock (decoded (chainSet ch (rounds z)) x) (decoded (messageSet ch) m)) (groupKey (firstRounds rows (rounds z)) g)
-  book-fold g l x m =
-      fold-law (chainSet ch (rounds z)) (messageSet ch) (chainSet ch 0) (groupKey (firstRounds rows (rounds z)) g) (groupAt bk g)
-      (v .codings .sets (rounds z) (le-refl (rounds z))) (v .codings .message) (v .codings .sets 0 (omega arith))
-      (block-key (firstRounds rows (rounds z)) g) (h .folds g l) x m
+  pub byte-of-turn : (l i j n : ℕ) → l < r → i < 3 → j < 8 → n < 256
+      → getD bk (roundsStart + roundLength * l + (12288 + 256 * (8 * i + j) + n)) 0 ≡ turnTable (roundCodings r ch l) i j n
+  byte-of-turn l i j n hl hi hj hn =
+      sym (getD-drop (roundsStart + roundLength * l) bk (12288 + 256 * (8 * i + j) + n) 0) ∙ h .tables l hl .turns i j n hi hj hn
 
-  -- a fold and then all rounds
-  pub book-through : (g : ℕ) → g < 3 → (x m : List ℕ)
-      → decoded (chainSet ch (rounds z)) (tableRounds (roundAt bk) (rounds z) (tableFold (groupAt bk g) x m))
-      ≡ firstRounds rows (rounds z)
-      (xorBlock (xorBlock (decoded (chainSet ch (rounds z)) x) (decoded (messageSet ch) m)) (groupKey (firstRounds rows (rounds z)) g))
-  book-through g l x m =
-      book-rounds (tableFold (groupAt bk g) x m) (rounds z) (le-refl (rounds z)) ∙ ap (firstRounds rows (rounds z)) (book-fold g l x m)
+-- ---- and no byte is left open
+
+module _ (r : ℕ) (rows : List (List ℕ)) (ch bk bk' : List ℕ) (h : Book r rows ch bk) (h' : Book r rows ch bk') where
+  -- the same byte at k, where k is the offset o
+  moved : (k o : ℕ) → o ≡ k → getD bk o 0 ≡ getD bk' o 0 → getD bk k 0 ≡ getD bk' k 0
+  moved k o e d = rw e at d
+
+  same-fold : (k : ℕ) → startLength ≤ k → k < roundsStart → getD bk k 0 ≡ getD bk' k 0
+  same-fold k a b =
+      let e = k - 16 in
+      let g = e / 256 / 8 / 4 in
+      let w = e / 256 / 8 % 4 in
+      let j = e / 256 % 8 in
+      let n = e % 256 in
+      moved k (startLength + groupLength * g + (256 * (8 * w + j) + n)) (omega arith)
+      (byte-of-fold r rows ch bk h g w j n (omega arith) (omega arith) (omega arith) (omega arith)
+      ∙ sym (byte-of-fold r rows ch bk' h' g w j n (omega arith) (omega arith) (omega arith) (omega arith)))
+
+  same-round : (l o : ℕ) → l < r → o < roundLength → Dec (o < 12288) → getD bk (roundsStart + roundLength * l + o) 0 ≡ getD bk' (roundsStart + roundLength * l + o) 0
+  same-round l o hl ho (yes d) =
+      let i = o / 512 / 8 in
+      let j = o / 512 % 8 in
+      let n = o % 512 in
+      moved (roundsStart + roundLength * l + o) (roundsStart + roundLength * l + (512 * (8 * i + j) + n)) (omega arith)
+      (byte-of-add r rows ch bk h l i j n hl (omega arith) (omega arith) (omega arith)
+      ∙ sym (byte-of-add r rows ch bk' h' l i j n hl (omega arith) (omega arith) (omega arith)))
+  same-round l o hl ho (no d) =
+      let p = o - 12288 in
+      let i = p / 256 / 8 in
+      let j = p / 256 % 8 in
+      let n = p % 256 in
+      moved (roundsStart + roundLength * l + o) (roundsStart + roundLength * l + (12288 + 256 * (8 * i + j) + n)) (omega arith)
+      (byte-of-turn r rows ch bk h l i j n hl (omega arith) (omega arith) (omega arith)
+      ∙ sym (byte-of-turn r rows ch bk' h' l i j n hl (omega arith) (omega arith) (omega arith)))
+
+  same-byte : (k : ℕ) → k < roundsStart + roundLength * r → Dec (k < startLength) → Dec (k < roundsStart) → getD bk k 0 ≡ getD bk' k 0
+  same-byte k b (yes d) e = byte-of-start r rows ch bk h k d ∙ sym (byte-of-start r rows ch bk' h' k d)
+  same-byte k b (no d) (yes e) = same-fold k (omega arith) e
+  same-byte k b (no d) (no e) =
+      let l = (k - roundsStart) / roundLength in
+      let o = (k - roundsStart) % roundLength in
+      moved k (roundsStart + roundLength * l + o) (omega arith) (same-round l o (omega arith) (omega arith) (decLt o 12288))
+
+  pub book-only : bk ≡ bk'
+  book-only =
+      ext-getD 0 bk bk' (h .size ∙ sym (h' .size)) (λ k b.
+      let m : k < roundsStart + roundLength * r = rw (h .size) at b in
+      same-byte k m (decLt k startLength) (decLt k roundsStart))

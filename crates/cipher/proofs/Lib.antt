@@ -13,5 +13,6 @@ pub mod RoundsLaw
 pub mod FoldLaw
 pub mod ChainTests
 pub mod BookLaw
+pub mod BookMeaning
 pub mod AnswerLaws
 pub mod Vectors

@@ -1,15 +1,16 @@
--- Laws of `chunks`, lists of one length s put one after another: the length, an element, a chunk cut out.
+-- Laws of `chunks`, lists of one length s put one after another: the length, an element, a chunk cut out; a tabulation is
+-- made of chunks; an element of the second of two lists.
 -- Assumes nothing.
-use mathlib.Core.Path.{_≡_, refl, sym, ap, _∙_}
+use mathlib.Core.Path.{_≡_, refl, sym, ap, ap₂, _∙_}
 use mathlib.Core.Logic.{⊎-elim}
-use mathlib.Core.List.{List, [], _∷_, _++_}
+use mathlib.Core.List.{List, [], _∷_, _++_, append-assoc, append-nil}
 use Prim.Native.Nat.{ℕ, zero, suc, _+_, _*_, _≤_, _<_}
-use native.Mathlib.Nat.{suc-mul, zero-mul, le-of-suc-le-suc, not-suc-le-zero, eq-or-lt-of-le, mul-le-mul-right, le-of-eq}
+use native.Mathlib.Nat.{suc-mul, zero-mul, le-of-suc-le-suc, not-suc-le-zero, eq-or-lt-of-le, mul-le-mul-right, le-of-eq, le-refl}
 use native.Mathlib.Numerals.{add-one}
 use native.Mathlib.Omega.{arith}
 use lib.ListN.{length, take, drop, getD, length-append, length-drop, List·getD-append}
 use lib.Seq.{getD-append-add, take-append-le, drop-append-le, drop-at, take-all}
-use Rattle.lists.specs.Tabulation.{chunks}
+use Rattle.lists.specs.Tabulation.{tab, chunks}
 
 pub chunks-more : (n : ℕ) (g : ℕ → List ℕ) → chunks (n + 1) g ≡ chunks n g ++ g n
 unfolding chunks
@@ -49,3 +50,26 @@ module _ (g : ℕ → List ℕ) (s : ℕ) (sized : (k : ℕ) → length (g k) �
       ∙ take-append-le s (drop (k * s) (chunks n g)) (g n) (rw (length-drop (k * s) (chunks n g)) (omega arith))
       ∙ chunk-at n k w)
       (eq-or-lt-of-le (le-of-suc-le-suc b))
+
+pub chunks-ext : (n : ℕ) (g h : ℕ → List ℕ) → ((k : ℕ) → k < n → g k ≡ h k) → chunks n g ≡ chunks n h
+unfolding chunks
+chunks-ext zero g h e = refl
+chunks-ext (suc n) g h e = ap₂ {C = List ℕ} (λ (a b : List ℕ). a ++ b) (chunks-ext n g h (λ k l. e k (omega arith))) (e n (le-refl (suc n)))
+
+-- a tabulation in two pieces, and in n pieces of s
+pub tab-append : (m n : ℕ) (f : ℕ → ℕ) → tab (m + n) f ≡ tab m f ++ tab n (λ k. f (m + k))
+unfolding tab
+tab-append m zero f = let e : m + 0 ≡ m = omega arith in rw (e, append-nil)
+tab-append m (suc n) f =
+    let e : m + suc n ≡ suc (m + n) = omega arith in
+    rw (e, tab-append m n f) (append-assoc (tab m f) (tab n (λ k. f (m + k))) (f (m + n) ∷ []))
+
+pub tab-chunks : (n s : ℕ) (f : ℕ → ℕ) → tab (n * s) f ≡ chunks n (λ k. tab s (λ i. f (k * s + i)))
+unfolding chunks
+tab-chunks zero s f = rw (zero-mul s) (unfold tab in refl)
+tab-chunks (suc n) s f =
+    rw (suc-mul n s) (tab-append (n * s) s f ∙ ap (λ (l : List ℕ). l ++ tab s (λ i. f (n * s + i))) (tab-chunks n s f))
+
+-- an element of the second of two lists, the first of length n
+pub getD-second : (a b : List ℕ) (n i k : ℕ) → length a ≡ n → n + i ≡ k → getD (a ++ b) k 0 ≡ getD b i 0
+getD-second a b n i k e h = ap (λ (m : ℕ). getD (a ++ b) m 0) (sym h ∙ ap (λ (m : ℕ). m + i) (sym e)) ∙ getD-append-add a b i 0
