@@ -71,18 +71,27 @@ place k = omega arith
 
 -- ---- a lone set
 
+pub set-permutations : (s : List ℕ) → arePermutations 32 s ≡ true → Permutations (setOf s)
+set-permutations s t w j hw hj = permutations-tested 32 s t (8 * w + j) (omega arith)
+
+pub permutations-set : (s : List ℕ) → Permutations (setOf s) → arePermutations 32 s ≡ true
+permutations-set s h =
+    tested-permutations 32 s (λ k l.
+    subst (λ (n : ℕ). Permutation (codingAt s n)) (place k) (h (k / 8) (k % 8) (omega arith) (omega arith)))
+
 pub set-tested : (s : List ℕ) → Clear (setTests s) → LoneSet s
 unfolding setTests
 set-tested s c = record {
   size = eqb-true (length s) setLength (not-false (eqb (length s) setLength) (c .0));
-  codings = λ w j hw hj. permutations-tested 32 s (not-false (arePermutations 32 s) (c .1 .0)) (8 * w + j) (omega arith);
+  codings = set-permutations s (not-false (arePermutations 32 s) (c .1 .0));
 }
 
 pub tested-set : (s : List ℕ) → LoneSet s → Clear (setTests s)
 unfolding setTests
-tested-set s h =
-    let p = tested-permutations 32 s (λ k l. subst (λ (n : ℕ). Permutation (codingAt s n)) (place k) (h .codings (k / 8) (k % 8) (omega arith) (omega arith))) in
-    (hold (eqb (length s) setLength) (eq-eqb (length s) setLength (h .size)), (hold (arePermutations 32 s) p, tt))
+tested-set s h = (
+  hold (eqb (length s) setLength) (eq-eqb (length s) setLength (h .size)),
+  (hold (arePermutations 32 s) (permutations-set s (h .codings)), tt),
+)
 
 -- ---- a chain
 

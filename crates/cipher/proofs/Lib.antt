@@ -6,12 +6,15 @@ pub mod CmacLaws
 pub mod ChainingLaws
 pub mod Permutation
 pub mod CodingLaws
+pub mod InverseLaws
 pub mod RippleAdd
 pub mod TurnDigits
+pub mod TableLaws
 pub mod RoundLaw
 pub mod RoundsLaw
 pub mod FoldLaw
 pub mod ChainTests
+pub mod ChainRefusals
 pub mod BookLaw
 pub mod BookMeaning
 pub mod AnswerLaws

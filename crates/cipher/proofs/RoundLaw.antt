@@ -6,7 +6,6 @@ use mathlib.Core.List.{List, [], _∷_}
 use Prim.Native.Nat.{ℕ, zero, suc, _+_, _*_, _/_, _%_, _^_, _<_}
 use native.Mathlib.Nat.{mod-eq-of-lt}
 use native.Mathlib.Omega.{arith}
-use borrow.Author.Tests.{lt-ltb}
 use lib.Dec.{lit<}
 use lib.Bits.{bitXor, xor-lt}
 use lib.ListN.{getD}
@@ -20,6 +19,7 @@ use Rattle.cipher.specs.Coding.{Permutation, Permutations, decode, block
 use Rattle.cipher.specs.Tables.{addSum, carryHeld, addEntry, turned, turnEntry, RoundCodings, addTable, upper, lower, turnTable, addAt, RoundTables, carryAt, sumAt, newAt, halfAfter, tableRound}
 use Rattle.cipher.proofs.WordLaws.{add-word, left-word, right-word}
 use Rattle.cipher.proofs.Permutation.{decode-lt, decode-code, decode-ext}
+use Rattle.cipher.proofs.TableLaws.{carry-held, turned-lt}
 use Rattle.cipher.proofs.CodingLaws.{Halves, blockHalf-lt, blockHalf-of, words-halves}
 use Rattle.cipher.proofs.RippleAdd.{carryInto, carry-next, carry-lt, half-add}
 use Rattle.cipher.proofs.TurnDigits.{half-left9, half-right5, half-right3}
@@ -33,10 +33,6 @@ pub record ValidRound (c : RoundCodings) : Type 0 where
   pub mask-bit : (i j : ℕ) → i < 3 → j < 8 → c .maskIn i j < 2
   pub mask-first : (i : ℕ) → i < 3 → c .maskIn i 0 ≡ 0
   pub mask-next : (i j : ℕ) → i < 3 → j < 7 → c .maskOut i j ≡ c .maskIn i (suc j)
-
-held : (j c m : ℕ) → j < 7 → carryHeld j c m ≡ bitXor c m
-unfolding carryHeld
-held j c m h = rw (lt-ltb j 7 h)
 
 -- the half bytes after a round
 pub after-lt : (t b : List ℕ) → Halves (halfAfter t b)
@@ -113,7 +109,7 @@ module _ (c : RoundCodings) (v : ValidRound c) (k t : List ℕ) (h : RoundTables
         let l : j < 8 = omega arith in
         let hb = xor-lt 1 (carryInto 0 left right (suc j)) (c .maskIn i (suc j)) (carry-lt 0 left right (suc j) (lit< tt)) (v .mask-bit i (suc j) hi hj) in
         let g = middle-lt j (add left right) l in
-        rw (entry-is j l (carry-is j l), held j (carryInto 0 left right (suc j)) (c .maskOut i j) (omega arith), v .mask-next i j hi (omega arith)) (omega arith)
+        rw (entry-is j l (carry-is j l), carry-held j (carryInto 0 left right (suc j)) (c .maskOut i j) (omega arith), v .mask-next i j hi (omega arith)) (omega arith)
 
     sum-is : (j : ℕ) → j < 8 → sumAt t b i j ≡ c .middle i j (halfByte sum j)
     unfolding sumAt sum keyed xor left right
@@ -129,17 +125,17 @@ module _ (c : RoundCodings) (v : ValidRound c) (k t : List ℕ) (h : RoundTables
     sum-decoded j hj = rw (sum-is j hj) (decode-code (c .middle i j) (v .middle-permute i j hi hj) (halfByte sum j) (half-lt sum j))
 
     -- a half byte of the new word, decoded
-    new-decoded : (j : ℕ) → j < 8 → upper i j < 8 → lower i j < 8 → ((x y : ℕ) → turned i x y < 16)
+    new-decoded : (j : ℕ) → j < 8 → upper i j < 8 → lower i j < 8
         → decode (c .after i j) (newAt t b i j) ≡ turned i (halfByte sum (upper i j)) (halfByte sum (lower i j))
     unfolding newAt turnTable turnEntry
-    new-decoded j hj h1 h2 ht =
+    new-decoded j hj h1 h2 =
         let l1 = sum-lt (upper i j) h1 in
         let l2 = sum-lt (lower i j) h2 in
         let p : (16 * sumAt t b i (upper i j) + sumAt t b i (lower i j)) / 16 ≡ sumAt t b i (upper i j) = omega arith in
         let q : (16 * sumAt t b i (upper i j) + sumAt t b i (lower i j)) % 16 ≡ sumAt t b i (lower i j) = omega arith in
         let a = v .after-permute i j (omega arith) hj in
         let x = turned i (halfByte sum (upper i j)) (halfByte sum (lower i j)) in
-        let hx = ht (halfByte sum (upper i j)) (halfByte sum (lower i j)) in
+        let hx = turned-lt i (halfByte sum (upper i j)) (halfByte sum (lower i j)) in
         rw (
           h .turns i j (16 * sumAt t b i (upper i j) + sumAt t b i (lower i j)) hi hj (omega arith),
           p,
@@ -168,11 +164,11 @@ module _ (c : RoundCodings) (v : ValidRound c) (k t : List ℕ) (h : RoundTables
       let l1 = sum-word 1 (lit< tt) in
       let l2 = sum-word 2 (lit< tt) in
       let e0 = after-opened 0 (turnLeft 9 (sum 0 (lit< tt))) (lit< tt) (left-word 9 (sum 0 (lit< tt)) (omega arith) l0) (λ j l.
-      new-decoded 0 (lit< tt) j l (omega arith) (omega arith) (λ x y. omega arith) ∙ sym (half-left9 (sum 0 (lit< tt)) j l0 l)) in
+      new-decoded 0 (lit< tt) j l (omega arith) (omega arith) ∙ sym (half-left9 (sum 0 (lit< tt)) j l0 l)) in
       let e1 = after-opened 1 (turnRight 5 (sum 1 (lit< tt))) (lit< tt) (right-word 5 (sum 1 (lit< tt)) (omega arith) l1) (λ j l.
-      new-decoded 1 (lit< tt) j l (omega arith) (omega arith) (λ x y. omega arith) ∙ sym (half-right5 (sum 1 (lit< tt)) j l1 l)) in
+      new-decoded 1 (lit< tt) j l (omega arith) (omega arith) ∙ sym (half-right5 (sum 1 (lit< tt)) j l1 l)) in
       let e2 = after-opened 2 (turnRight 3 (sum 2 (lit< tt))) (lit< tt) (right-word 3 (sum 2 (lit< tt)) (omega arith) l2) (λ j l.
-      new-decoded 2 (lit< tt) j l (omega arith) l (λ x y. omega arith) ∙ sym (half-right3 (sum 2 (lit< tt)) j l2 l)) in
+      new-decoded 2 (lit< tt) j l (omega arith) l ∙ sym (half-right3 (sum 2 (lit< tt)) j l2 l)) in
       let e3 = after-opened 3 (opened 0) (lit< tt) opened-word (λ j l.
       decode-ext (c .after 3 j) (c .before 0 j) (blockHalf b 0 j) (λ x m. v .word3 j x l m) ∙ sym (half-opened 0 j (lit< tt) l)) in
       words-halves (λ w j. decode (c .after w j) (blockHalf (ofHalves (halfAfter t b)) w j))

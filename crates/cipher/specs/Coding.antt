@@ -7,7 +7,7 @@ use mathlib.Core.List.{List}
 use Prim.Native.Nat.{ℕ, zero, suc, _+_, _*_, _/_, _%_, _<_}
 use lib.Dec.{eqb}
 use lib.ListN.{getD}
-use Rattle.lists.specs.Tabulation.{tab}
+use Rattle.lists.specs.Tabulation.{tab, chunks}
 use Rattle.lists.specs.HalfBytes.{halfByte}
 
 -- f sends the numbers below n to numbers below m, no two to the same
@@ -58,3 +58,7 @@ coded S b = ofHalves (λ w j. S w j (blockHalf b w j))
 
 unfoldable pub decoded : Set → List ℕ → List ℕ
 decoded S b = ofHalves (λ w j. decode (S w j) (blockHalf b w j))
+
+-- the first n codings in s inverted, in the same places: byte v of each is what v is decoded to
+unfoldable pub inverted : ℕ → List ℕ → List ℕ
+inverted n s = chunks n (λ k. tab 16 (decode (codingAt s k)))

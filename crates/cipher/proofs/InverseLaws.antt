@@ -1,0 +1,60 @@
+-- Codings inverted once: to decode by a set is to code by the inverted set. And coding a block byte by byte, as a loop does.
+-- Assumes nothing.
+use mathlib.Core.Path.{_≡_, sym, ap, ap₂, _∙_}
+use mathlib.Core.List.{List}
+use Prim.Native.Nat.{ℕ, _+_, _*_, _/_, _%_, _<_}
+use native.Mathlib.Omega.{arith}
+use lib.ListN.{length, getD}
+use Rattle.lists.specs.Tabulation.{tab, chunks}
+use Rattle.lists.specs.Blocks.{Bytes}
+use Rattle.lists.specs.HalfBytes.{halfByte}
+use Rattle.lists.proofs.TabulationLaws.{length-tab, getD-tab, tab-ext}
+use Rattle.lists.proofs.ChunkLaws.{length-chunks, getD-chunks}
+use Rattle.cipher.specs.Coding.{decode, codingAt, setOf, blockHalf, ofHalves, coded, decoded, inverted}
+use Rattle.cipher.proofs.CodingLaws.{blockHalf-lt, ofHalves-ext}
+
+-- ---- inverted codings
+
+module _ (n : ℕ) (s : List ℕ) where
+  each : (k : ℕ) → length (tab 16 (decode (codingAt s k))) ≡ 16
+  each k = length-tab 16 (decode (codingAt s k))
+
+  pub length-inverted : length (inverted n s) ≡ n * 16
+  unfolding inverted
+  length-inverted = length-chunks (λ k. tab 16 (decode (codingAt s k))) 16 each n
+
+  pub inverted-at : (k v : ℕ) → k < n → v < 16 → codingAt (inverted n s) k v ≡ decode (codingAt s k) v
+  unfolding inverted
+  inverted-at k v hk hv =
+      let e : 16 * k + v ≡ k * 16 + v = omega arith in
+      ap (λ (i : ℕ). getD (chunks n (λ k. tab 16 (decode (codingAt s k)))) i 0) e
+      ∙ getD-chunks (λ k. tab 16 (decode (codingAt s k))) 16 each n k v hk hv
+      ∙ getD-tab 16 (decode (codingAt s k)) v hv
+
+pub decoded-inverted : (s b : List ℕ) → decoded (setOf s) b ≡ coded (setOf (inverted 32 s)) b
+unfolding decoded coded
+decoded-inverted s b =
+    ofHalves-ext (λ w j. decode (setOf s w j) (blockHalf b w j)) (λ w j. setOf (inverted 32 s) w j (blockHalf b w j)) (λ w j hw hj.
+    sym (inverted-at 32 s (8 * w + j) (blockHalf b w j) (omega arith) (blockHalf-lt b w j)))
+
+-- ---- byte by byte
+
+-- byte k of the block b coded by the codings in s: codings 2k and 2k + 1 serve its halves
+abbrev pub codedByte : List ℕ → List ℕ → ℕ → ℕ
+codedByte s b k = getD s (32 * k + getD b k 0 % 16) 0 + 16 * getD s (32 * k + 16 + getD b k 0 / 16) 0
+
+pub coded-bytes : (s b : List ℕ) → Bytes b → coded (setOf s) b ≡ tab 16 (codedByte s b)
+unfolding coded ofHalves blockHalf halfByte
+coded-bytes s b h =
+    tab-ext 16 _ (codedByte s b) (λ k l.
+    let p : 4 * (k / 4) + 2 * (k % 4) / 2 ≡ k = omega arith in
+    let q : 4 * (k / 4) + (2 * (k % 4) + 1) / 2 ≡ k = omega arith in
+    let c : 2 * (k % 4) % 2 ≡ 0 = omega arith in
+    let d : (2 * (k % 4) + 1) % 2 ≡ 1 = omega arith in
+    let m = h k in
+    let u : 16 * (8 * (k / 4) + 2 * (k % 4)) + getD b k 0 % 16 ≡ 32 * k + getD b k 0 % 16 = omega arith in
+    let v : 16 * (8 * (k / 4) + (2 * (k % 4) + 1)) + getD b k 0 / 16 % 16 ≡ 32 * k + 16 + getD b k 0 / 16 = omega arith in
+    rw (p, q, c, d) (ap₂ (λ (x y : ℕ). getD s x 0 + 16 * getD s y 0) u v))
+
+pub decoded-bytes : (s b : List ℕ) → Bytes b → decoded (setOf s) b ≡ tab 16 (codedByte (inverted 32 s) b)
+decoded-bytes s b h = decoded-inverted s b ∙ coded-bytes (inverted 32 s) b h
