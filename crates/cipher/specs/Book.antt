@@ -1,5 +1,5 @@
--- The book of tables of rows of round keys and a chain (document 01, "Book"; book, fold and turn are its terms), and where
--- each part of it stands. All is said of any rows and any number r of rounds.
+-- The book (01's term) of tables that rows of round keys and a chain make, and where each part of it stands (document 01,
+-- "Book"). All is said of any rows and any number r of rounds.
 -- Assumes nothing.
 use mathlib.Core.Path.{_≡_}
 use mathlib.Core.List.{List, [], _++_}
@@ -15,11 +15,11 @@ use Rattle.cipher.specs.Chain.{messageSet, chainSet, roundCodings}
 
 -- ---- the parts
 
--- the start: the zero block, coded by set r
+-- the start: sixteen zero bytes under set r
 unfoldable pub startPart : ℕ → List ℕ → List ℕ
 startPart r ch = coded (chainSet ch r) zeros
 
--- add table and turn table p of a round, and the round: 24 of each
+-- add table p and turn table p of a round, p = 8i + j, and the round: all 24 of the first kind, then of the second
 unfoldable pub addPart : RoundCodings → List ℕ → ℕ → List ℕ
 addPart c k p = tab 512 (addTable c k (p / 8) (p % 8))
 
@@ -29,33 +29,34 @@ turnPart c p = tab 256 (turnTable c (p / 8) (p % 8))
 unfoldable pub roundPart : RoundCodings → List ℕ → List ℕ
 roundPart c k = chunks 24 (addPart c k) ++ chunks 24 (turnPart c)
 
--- fold table p of a group, and the group: 32 of them
+-- fold table p of a group, p = 8w + j, and the group of 32
 unfoldable pub foldPart : Set → Set → Set → List ℕ → ℕ → List ℕ
 foldPart S U S' k p = tab 256 (foldTable S U S' k (p / 8) (p % 8))
 
 unfoldable pub groupPart : Set → Set → Set → List ℕ → List ℕ
 groupPart S U S' k = chunks 32 (foldPart S U S' k)
 
--- what a group folds in besides: nothing, K1, K2
+-- the key block of group g: zeros, K1, K2
 unfoldable pub groupKey : (List ℕ → List ℕ) → ℕ → List ℕ
 groupKey cipher zero = zeros
 groupKey cipher (suc zero) = subkey1 cipher
 groupKey cipher (suc (suc g)) = subkey2 cipher
 
--- group g and round l of a book
+-- group g and round l of a book: folds go from set r and U to set 0
 unfoldable pub bookGroup : ℕ → List (List ℕ) → List ℕ → ℕ → List ℕ
 bookGroup r rows ch g = groupPart (chainSet ch r) (messageSet ch) (chainSet ch 0) (groupKey (firstRounds rows r) g)
 
 unfoldable pub bookRound : ℕ → List (List ℕ) → List ℕ → ℕ → List ℕ
 bookRound r rows ch l = roundPart (roundCodings r ch l) (getD rows l [])
 
--- ---- the book: the start, three groups, r rounds
+-- ---- the book
 
 unfoldable pub bookOf : ℕ → List (List ℕ) → List ℕ → List ℕ
 bookOf r rows ch = startPart r ch ++ (chunks 3 (bookGroup r rows ch) ++ chunks r (bookRound r rows ch))
 
--- ---- where they stand
+-- ---- where the parts stand
 
+-- the bytes of the start, of a group and of a round, and the offset of the first round
 abbrev pub startLength : ℕ
 startLength = 16
 
@@ -68,7 +69,7 @@ roundLength = 18432
 abbrev pub roundsStart : ℕ
 roundsStart = startLength + 3 * groupLength
 
--- the start of a book; and a book from its group g on, and from its round l on
+-- the start of a book; a book from its group g on; and a book from its round l on
 abbrev pub startOf : List ℕ → List ℕ
 startOf bk = take startLength bk
 
@@ -78,7 +79,7 @@ groupAt bk g = drop (startLength + groupLength * g) bk
 abbrev pub roundAt : List ℕ → ℕ → List ℕ
 roundAt bk l = drop (roundsStart + roundLength * l) bk
 
--- bk holds the start and every entry of every table: all that a reader of a book needs to know
+-- bk has the start and every entry of every table in its place: a reader of a book needs no other fact
 pub record Book (r : ℕ) (rows : List (List ℕ)) (ch bk : List ℕ) : Type 0 where
   pub size : length bk ≡ roundsStart + roundLength * r
   pub start : startOf bk ≡ startPart r ch

@@ -1,5 +1,6 @@
--- Chains of codings (document 01, "Chain of codings"; chain, set, message set, middle coding and mask are its terms): where
--- everything stands in the bytes of a chain of r rounds, when a chain is valid, and the tests 2 to 5 of its refusals.
+-- Chains of codings (document 01, "Chain of codings", its second paragraph; chain, message set, middle coding and mask are
+-- its terms): where everything stands in the bytes of a chain of r rounds, when a chain is valid, and the tests of the
+-- refusals 2 to 5 ("Refusals from the input").
 -- Assumes nothing.
 use mathlib.Core.Path.{_≡_}
 use mathlib.Core.Bool.{Bool, not, cond, _&&_}
@@ -13,34 +14,36 @@ use Rattle.cipher.specs.Coding.{Permutation, Permutations, Set, codingAt
 use Rattle.cipher.specs.Tables.{RoundCodings}
 use Rattle.cipher.specs.declared.size.KeySize.{KeySize}
 
--- ---- where it stands
+-- ---- where everything stands
 
--- the bytes of a set
+-- how many bytes a set takes
 abbrev pub setLength : ℕ
 setLength = 512
 
--- the message set U, then the sets 0 to r
+-- in front the message set U, behind it the sets 0 to r
 abbrev pub messageSet : List ℕ → Set
 messageSet ch = setOf ch
 
 abbrev pub chainSet : List ℕ → ℕ → Set
 chainSet ch l = setOf (drop (setLength * suc l) ch)
 
--- then for each round 24 middle codings and 24 masks
+-- behind the sets, 408 bytes for each round; the chain from those of round l on
 abbrev pub roundBytes : ℕ → List ℕ → ℕ → List ℕ
 roundBytes r ch l = drop (setLength * (r + 2) + 408 * l) ch
 
+-- of them 24 codings of 16 bytes: the middle codings G, that of half byte j of sum i at place 8i + j
 abbrev pub middleSet : ℕ → List ℕ → ℕ → Set
 middleSet r ch l = setOf (roundBytes r ch l)
 
--- the mask at place 8i + j of a round is that of the carry into half byte j of sum i
+-- and 24 masks, a byte each: the one at place k
 abbrev pub maskAt : ℕ → List ℕ → ℕ → ℕ → ℕ
 maskAt r ch l k = getD (roundBytes r ch l) (384 + k) 0
 
+-- the mask of the carry into half byte j of sum i stands at place 8i + j
 abbrev pub maskIn : ℕ → List ℕ → ℕ → ℕ → ℕ → ℕ
 maskIn r ch l i j = maskAt r ch l (8 * i + j)
 
--- and the next one that of the carry out of it
+-- the carry out of half byte j goes into the next, so its mask is the next one
 abbrev pub maskOut : ℕ → List ℕ → ℕ → ℕ → ℕ → ℕ
 maskOut r ch l i j = maskAt r ch l (8 * i + suc j)
 
@@ -56,17 +59,17 @@ roundCodings r ch l = record {
 
 -- ---- valid chains
 
--- all codings are permutations
+-- every coding of the chain permutes 0 to 15
 pub record CodingRule (r : ℕ) (ch : List ℕ) : Type 0 where
   pub message : Permutations (messageSet ch)
   pub sets : (l : ℕ) → l ≤ r → Permutations (chainSet ch l)
   pub middles : (l i j : ℕ) → l < r → i < 3 → j < 8 → Permutation (middleSet r ch l i j)
 
--- the word 3 rule: word 3 of set l + 1 is word 0 of set l
+-- the word 3 rule: behind a round, word 3 is coded as word 0 was before it
 abbrev pub WordRule : ℕ → List ℕ → Type 0
 WordRule r ch = (l j v : ℕ) → l < r → j < 8 → v < 16 → chainSet ch (suc l) 3 j v ≡ chainSet ch l 0 j v
 
--- each mask is 0 or 1, and 0 at j = 0
+-- masks are bits, and none is set for the carry into half byte 0
 pub record MaskRule (r : ℕ) (ch : List ℕ) : Type 0 where
   pub bits : (l i j : ℕ) → l < r → i < 3 → j < 8 → maskIn r ch l i j < 2
   pub firsts : (l i : ℕ) → l < r → i < 3 → maskIn r ch l i 0 ≡ 0
@@ -78,14 +81,14 @@ pub record Chain (z : KeySize) (ch : List ℕ) : Type 0 where
   pub word3 : WordRule (rounds z) ch
   pub masks : MaskRule (rounds z) ch
 
--- a valid lone set
+-- a valid set that comes alone
 pub record LoneSet (s : List ℕ) : Type 0 where
   pub size : length s ≡ setLength
   pub codings : Permutations (setOf s)
 
--- ---- the same as tests
+-- ---- the same rules as tests
 
--- each of the n values of f is below m and none of those before it
+-- each of the n values of f is below m and differs from all before it
 unfoldable pub isOneToOne : ℕ → ℕ → (ℕ → ℕ) → Bool
 isOneToOne n m f = every n (λ i. ltb (f i) m && every i (λ k. not (eqb (f k) (f i))))
 
@@ -93,25 +96,25 @@ isOneToOne n m f = every n (λ i. ltb (f i) m && every i (λ k. not (eqb (f k) (
 unfoldable pub arePermutations : ℕ → List ℕ → Bool
 arePermutations n s = every n (λ k. isOneToOne 16 16 (codingAt s k))
 
--- the codings of the r + 2 sets, and of each round
+-- the codings of U and the sets 0 to r, which lie one after another, and those of each round
 unfoldable pub codingRuleHolds : ℕ → List ℕ → Bool
 codingRuleHolds r ch = arePermutations (32 * (r + 2)) ch && every r (λ l. arePermutations 24 (roundBytes r ch l))
 
--- byte k of the eight codings of word w of set l
+-- byte k of word w of set l: a word has eight codings
 abbrev pub wordByte : List ℕ → ℕ → ℕ → ℕ → ℕ
 wordByte ch l w k = getD (drop (setLength * suc l) ch) (128 * w + k) 0
 
 unfoldable pub wordRuleHolds : ℕ → List ℕ → Bool
 wordRuleHolds r ch = every r (λ l. every 128 (λ k. eqb (wordByte ch (suc l) 3 k) (wordByte ch l 0 k)))
 
--- the mask at place k must be below this
+-- what the mask at place k must be below
 abbrev pub maskLimit : ℕ → ℕ
 maskLimit k = cond (eqb (k % 8) 0) 1 2
 
 unfoldable pub maskRuleHolds : ℕ → List ℕ → Bool
 maskRuleHolds r ch = every r (λ l. every 24 (λ k. ltb (maskAt r ch l k) (maskLimit k)))
 
--- ---- the refusals 2 and 3 of a lone set, and 2 to 5 of a chain
+-- ---- the refusals 2 and 3 of a set that comes alone, and 2 to 5 of a chain for a key of size z
 
 unfoldable pub setTests : List ℕ → List (Bool × ℕ)
 setTests s = (not (eqb (length s) setLength), 2) ∷ (not (arePermutations 32 s), 3) ∷ []

@@ -1,5 +1,5 @@
--- Codings, sets of codings, and blocks coded by a set (document 01, "Chain of codings"; coding and set are its terms).
--- A coding is read as a function on the numbers 0 to 15, a set as a function of word, half byte and value.
+-- Codings, sets of codings, and blocks coded by a set (document 01, "Chain of codings", its first paragraph). A coding is
+-- read as a function on the numbers 0 to 15, a set as a function of word, half byte and value.
 -- Assumes nothing.
 use mathlib.Core.Path.{_≡_}
 use mathlib.Core.Bool.{cond}
@@ -15,7 +15,7 @@ pub record OneToOne (n m : ℕ) (f : ℕ → ℕ) : Type 0 where
   pub low : (i : ℕ) → i < n → f i < m
   pub once : (i k : ℕ) → i < n → k < n → f i ≡ f k → i ≡ k
 
--- what a coding must be: a permutation of 0 to 15
+-- what a coding (01's term) must be: a permutation of 0 to 15. The coding f sends v to f v
 abbrev pub Permutation : (ℕ → ℕ) → Type 0
 Permutation f = OneToOne 16 16 f
 
@@ -24,27 +24,27 @@ unfoldable pub placeOf : (ℕ → ℕ) → ℕ → ℕ → ℕ
 placeOf f zero v = zero
 placeOf f (suc n) v = cond (eqb (f zero) v) zero (suc (placeOf (λ i. f (suc i)) n v))
 
--- a value decoded: the place whose image it is
+-- a value decoded: the number that the coding f sends to it
 unfoldable pub decode : (ℕ → ℕ) → ℕ → ℕ
 decode f v = placeOf f 16 v
 
--- a set: the coding of half byte j of word w is S w j
+-- a set (01's term): a coding S w j for each half byte j of each word w of a block
 abbrev pub Set : Type 0
 Set = ℕ → ℕ → ℕ → ℕ
 
--- all 32 codings of a set are permutations
+-- what a set must be: 32 permutations
 abbrev pub Permutations : Set → Type 0
 Permutations S = (w j : ℕ) → w < 4 → j < 8 → Permutation (S w j)
 
--- the codings that lie in s one after another, 16 bytes each: the image of v by coding k
+-- where codings lie in bytes s, one after another and 16 bytes each: what coding k sends v to
 abbrev pub codingAt : List ℕ → ℕ → ℕ → ℕ
 codingAt s k v = getD s (16 * k + v) 0
 
--- the set that they make: coding 8w + j serves half byte j of word w
+-- the set that lies in s: half byte j of word w has coding 8w + j
 abbrev pub setOf : List ℕ → Set
 setOf s w j = codingAt s (8 * w + j)
 
--- half byte j of word w of a block: half byte p = 8w + j is in byte p / 2, in its low half if p is even
+-- half byte j of word w of a block, counted 8w + j: each byte holds two, the even one low
 unfoldable pub blockHalf : List ℕ → ℕ → ℕ → ℕ
 blockHalf b w j = halfByte (getD b (4 * w + j / 2) 0) (j % 2)
 
@@ -59,6 +59,6 @@ coded S b = ofHalves (λ w j. S w j (blockHalf b w j))
 unfoldable pub decoded : Set → List ℕ → List ℕ
 decoded S b = ofHalves (λ w j. decode (S w j) (blockHalf b w j))
 
--- the first n codings in s inverted, in the same places: byte v of each is what v is decoded to
+-- the first n codings in s inverted, each in its place: what it sends to v stands at v
 unfoldable pub inverted : ℕ → List ℕ → List ℕ
 inverted n s = chunks n (λ k. tab 16 (decode (codingAt s k)))
