@@ -1,12 +1,15 @@
--- Laws of single tables: how large an entry is, and the carry that it holds.
+-- Laws of single tables: the carry that an entry holds, how large an entry is, and each table as rows of sixteen, from codings
+-- inverted beforehand, as a builder fills it.
 -- Assumes nothing.
-use mathlib.Core.Path.{_≡_}
+use mathlib.Core.Path.{_≡_, ap, _∙_}
 use mathlib.Core.Bool.{Bool, true, false, cond}
-use Prim.Native.Nat.{ℕ, zero, suc, _/_, _%_, _≤_, _<_}
+use Prim.Native.Nat.{ℕ, zero, suc, _+_, _*_, _/_, _%_, _≤_, _<_}
 use native.Mathlib.Omega.{arith}
 use borrow.Author.Tests.{lt-ltb, le-ltb}
 use lib.Bits.{bitXor, xor-lt}
 use lib.Dec.{ltb, lit<}
+use Rattle.lists.specs.Tabulation.{tab, chunks}
+use Rattle.lists.proofs.ChunkLaws.{tab-rows}
 use Rattle.cipher.specs.Coding.{Permutation, decode}
 use Rattle.cipher.specs.Tables.{addSum, carryHeld, addEntry, turned, turnEntry, foldEntry}
 use Rattle.cipher.proofs.Permutation.{decode-lt}
@@ -63,3 +66,40 @@ module _ (h : ℕ → ℕ) (s : Permutation h) where
   unfolding turnEntry
   turn-below i n f g =
       s .low (turned i (decode f (n / 16)) (decode g (n % 16))) (turned-lt i (decode f (n / 16)) (decode g (n % 16)))
+
+-- ---- tables as rows of sixteen
+
+-- an add table: a and b hold the operands decoded and keyed, e the entry of each sum
+pub add-rows : (f g h : ℕ → ℕ) (j k l m m' : ℕ) → Permutation f → Permutation g → k < 16 → l < 16 → m < 2 → (a b e : ℕ → ℕ)
+    → ((p : ℕ) → p < 16 → bitXor (decode f p) k ≡ a p) → ((q : ℕ) → q < 16 → bitXor (decode g q) l ≡ b q)
+    → ((s : ℕ) → s < 32 → addEntry j h m' s ≡ e s)
+    → tab 512 (λ n. addEntry j h m' (addSum f g k l m n)) ≡ chunks 32 (λ x. tab 16 (λ q. e (a (x % 16) + b q + bitXor (x / 16) m)))
+unfolding addSum
+add-rows f g h j k l m m' pf pg hk hl hm a b e ea eb ee =
+    tab-rows 32 16 (λ n. addEntry j h m' (addSum f g k l m n)) (λ x q. e (a (x % 16) + b q + bitXor (x / 16) m)) (λ x q hx hq.
+    ee (addSum f g k l m (x * 16 + q)) (sum-below f g pf pg k l m (x * 16 + q) hk hl hm (omega arith)) ∙ ap e (at x q hx hq))
+  where
+    at : (x q : ℕ) → x < 32 → q < 16 → addSum f g k l m (x * 16 + q) ≡ a (x % 16) + b q + bitXor (x / 16) m
+    at x q hx hq =
+        let u : (x * 16 + q) / 16 % 16 ≡ x % 16 = omega arith in
+        let v : (x * 16 + q) % 16 ≡ q = omega arith in
+        let w : (x * 16 + q) / 256 ≡ x / 16 = omega arith in
+        rw (u, v, w, ea (x % 16) (omega arith), eb q hq)
+
+-- a turn table and a fold table: u and v hold the operands decoded
+module _ (f g h u v : ℕ → ℕ) (eu : (p : ℕ) → p < 16 → decode f p ≡ u p) (ev : (q : ℕ) → q < 16 → decode g q ≡ v q) where
+  pub turn-rows : (i : ℕ) → tab 256 (turnEntry i f g h) ≡ chunks 16 (λ p. tab 16 (λ q. h (turned i (u p) (v q))))
+  unfolding turnEntry
+  turn-rows i =
+      tab-rows 16 16 (turnEntry i f g h) (λ p q. h (turned i (u p) (v q))) (λ p q hp hq.
+      let a : (p * 16 + q) / 16 ≡ p = omega arith in
+      let b : (p * 16 + q) % 16 ≡ q = omega arith in
+      rw (a, b, eu p hp, ev q hq))
+
+  pub fold-rows : (k : ℕ) → tab 256 (foldEntry f g h k) ≡ chunks 16 (λ p. tab 16 (λ q. h (bitXor (bitXor (u p) (v q)) k)))
+  unfolding foldEntry
+  fold-rows k =
+      tab-rows 16 16 (foldEntry f g h k) (λ p q. h (bitXor (bitXor (u p) (v q)) k)) (λ p q hp hq.
+      let a : (p * 16 + q) / 16 ≡ p = omega arith in
+      let b : (p * 16 + q) % 16 ≡ q = omega arith in
+      rw (a, b, eu p hp, ev q hq))

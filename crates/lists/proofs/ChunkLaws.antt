@@ -11,6 +11,7 @@ use native.Mathlib.Omega.{arith}
 use lib.ListN.{length, take, drop, getD, length-append, length-drop, List·getD-append}
 use lib.Seq.{getD-append-add, take-append-le, drop-append-le, drop-at, take-all}
 use Rattle.lists.specs.Tabulation.{tab, chunks}
+use Rattle.lists.proofs.TabulationLaws.{tab-ext}
 
 pub chunks-more : (n : ℕ) (g : ℕ → List ℕ) → chunks (n + 1) g ≡ chunks n g ++ g n
 unfolding chunks
@@ -69,6 +70,13 @@ unfolding chunks
 tab-chunks zero s f = rw (zero-mul s) (unfold tab in refl)
 tab-chunks (suc n) s f =
     rw (suc-mul n s) (tab-append (n * s) s f ∙ ap (λ (l : List ℕ). l ++ tab s (λ i. f (n * s + i))) (tab-chunks n s f))
+
+-- the same where the pieces have a rule of their own, by piece and place
+pub tab-rows : (n s : ℕ) (f : ℕ → ℕ) (g : ℕ → ℕ → ℕ) → ((k i : ℕ) → k < n → i < s → f (k * s + i) ≡ g k i)
+    → tab (n * s) f ≡ chunks n (λ k. tab s (g k))
+tab-rows n s f g e =
+    tab-chunks n s f
+    ∙ chunks-ext n (λ k. tab s (λ i. f (k * s + i))) (λ k. tab s (g k)) (λ k l. tab-ext s (λ i. f (k * s + i)) (g k) (λ i m. e k i l m))
 
 -- an element of the second of two lists, the first of length n
 pub getD-second : (a b : List ℕ) (n i k : ℕ) → length a ≡ n → n + i ≡ k → getD (a ++ b) k 0 ≡ getD b i 0
