@@ -1,6 +1,7 @@
 pub mod WordLaws
 pub mod KeySizeLaws
 pub mod ScheduleLaws
+pub mod Schedule32
 pub mod LeaLaws
 pub mod CmacLaws
 pub mod ChainingLaws

@@ -1,4 +1,4 @@
--- Laws of the key schedule: one step more of a loop that fills the rows, and that every round key is a word.
+-- Laws of the key schedule: one row more, or four, in a loop that fills the rows, and that every round key is a word.
 -- Assumes nothing.
 use mathlib.Core.Path.{_≡_, refl, sym, ap, _∙_}
 use Prim.Native.Nat.{ℕ, zero, suc, _+_, _-_, _*_, _%_, _^_, _≤_, _<_}
@@ -10,7 +10,7 @@ use lib.ListN.{getD, length, set, replicate, length-append}
 use Rattle.lists.specs.Blocks.{Below, Bytes}
 use Rattle.lists.proofs.PartLaws.{fill-more}
 use Rattle.cipher.specs.Word.{add, turnLeft, word, wordAt}
-use Rattle.cipher.specs.Schedule.{turns, mixed, step16, row16, step24, row24, place, mixAt, step32, row32, words4, words6, words8, stepped, rowsOf, blank, filled, schedule}
+use Rattle.cipher.specs.Schedule.{turns, mixed, mixedRow, step16, row16, step24, row24, place, mixAt, step32, row32, words4, words6, words8, stepped, rowsOf, blank, filled, schedule}
 use Rattle.cipher.specs.KeySize.{rounds}
 use Rattle.cipher.specs.declared.size.KeySize.{KeySize}
 use Rattle.cipher.specs.declared.size.KeySize.the-variants.{Bytes16, Bytes24, Bytes32}
@@ -34,6 +34,30 @@ module _ (step row : ℕ → List ℕ → List ℕ) where
   rows-more i t h =
       fill-more 32 i blank (row i (stepped step (i + 1) t)) (rowsOf step row i t) (rows-length i t) h
       ∙ rw add-one
+
+  -- four rows stored one after the other
+  pub four-rows : (i : ℕ) (t : List ℕ) (rows : List (List ℕ)) (a b c d : List ℕ) → i + 4 ≤ 32 → rows ≡ filled step row i t
+      → a ≡ row i (stepped step (i + 1) t) → b ≡ row (i + 1) (stepped step (i + 2) t)
+      → c ≡ row (i + 2) (stepped step (i + 3) t) → d ≡ row (i + 3) (stepped step (i + 4) t)
+      → set (set (set (set rows i a) (i + 1) b) (i + 2) c) (i + 3) d ≡ filled step row (i + 4) t
+  four-rows i t rows a b c d h er ea eb ec ed =
+      (λ k. set (set (set (set (er k) i (ea k)) (i + 1) (eb k)) (i + 2) (ec k)) (i + 3) (ed k))
+      ∙ ap (λ (r : List (List ℕ)). set (set (set r (i + 1) B) (i + 2) C) (i + 3) D) (rows-more i t (omega arith))
+      ∙ ap (λ (r : List (List ℕ)). set (set r (i + 2) C) (i + 3) D) (one-more (i + 1) (i + 2) (omega arith) (omega arith))
+      ∙ ap (λ (r : List (List ℕ)). set r (i + 3) D) (one-more (i + 2) (i + 3) (omega arith) (omega arith))
+      ∙ one-more (i + 3) (i + 4) (omega arith) (omega arith)
+    where
+      B : List ℕ
+      B = row (i + 1) (stepped step (i + 2) t)
+
+      C : List ℕ
+      C = row (i + 2) (stepped step (i + 3) t)
+
+      D : List ℕ
+      D = row (i + 3) (stepped step (i + 4) t)
+
+      one-more : (m n : ℕ) → m + 1 ≡ n → m < 32 → set (filled step row m t) m (row m (stepped step n t)) ≡ filled step row n t
+      one-more m n e l = ap (λ (k : ℕ). set (filled step row m t) m (row m (stepped step k t))) (sym e) ∙ rows-more m t l ∙ ap (λ (k : ℕ). filled step row k t) e
 
 -- ---- every round key is a word
 
@@ -111,12 +135,12 @@ row16-words : (i : ℕ) (t : List ℕ) → Words t → Words (row16 i t)
 unfolding row16
 row16-words i t h = more (below h 0) (more (below h 1) (more (below h 2) (more (below h 1) (more (below h 3) (more (below h 1) none)))))
 
-step24-words : (i : ℕ) (t : List ℕ) → Words t → Words (step24 i t)
-unfolding step24
-step24-words i t h =
-    more (mixed-word 6 i 0 _)
-    (more (mixed-word 6 i 1 _)
-    (more (mixed-word 6 i 2 _) (more (mixed-word 6 i 3 _) (more (mixed-word 6 i 4 _) (more (mixed-word 6 i 5 _) none)))))
+mixedRow-words : (n i : ℕ) (t : List ℕ) → Words (mixedRow n i t)
+unfolding mixedRow
+mixedRow-words n i t =
+    more (mixed-word n i 0 _)
+    (more (mixed-word n i 1 _)
+    (more (mixed-word n i 2 _) (more (mixed-word n i 3 _) (more (mixed-word n i 4 _) (more (mixed-word n i 5 _) none)))))
 
 mixAt-words : (i m : ℕ) (t : List ℕ) → Words t → Words (mixAt i m t)
 unfolding mixAt
@@ -150,5 +174,5 @@ module _ (step row : ℕ → List ℕ → List ℕ) (hs : (i : ℕ) (t : List �
 pub schedule-words : (z : KeySize) (key : List ℕ) → Bytes key → RowsOfWords (schedule z key)
 unfolding schedule
 schedule-words Bytes16 key h = filled-words step16 row16 step16-words row16-words (words4 key) (words4-words key h) 24
-schedule-words Bytes24 key h = filled-words step24 row24 step24-words (λ i t w. w) (words6 key) (words6-words key h) 28
+schedule-words Bytes24 key h = filled-words step24 row24 (λ i t w. mixedRow-words 6 i t) (λ i t w. w) (words6 key) (words6-words key h) 28
 schedule-words Bytes32 key h = filled-words step32 row32 step32-words row32-words (words8 key) (words8-words key h) 32

@@ -5,7 +5,7 @@ use mathlib.Core.Path.{_≡_, refl}
 use Prim.Native.Nat.{ℕ}
 use mathlib.Core.List.{List, [], _∷_}
 use Rattle.cipher.specs.Word.{add, xor, turnLeft, turnRight, word, bytesOf, wordAt}
-use Rattle.cipher.specs.Schedule.{mixed, step16, row16, step24, place, mixAt, step32, row32, words4, words6, words8, stepped, rowsOf, schedule}
+use Rattle.cipher.specs.Schedule.{mixed, mixedRow, step16, row16, place, mixAt, step32, row32, words4, words6, words8, stepped, rowsOf, schedule}
 use Rattle.cipher.specs.Lea.{keyed, round, forward, bytes, firstRounds, encipher}
 use Rattle.cipher.specs.declared.size.KeySize.the-variants.{Bytes16, Bytes24, Bytes32}
 
@@ -32,7 +32,7 @@ abbrev pub cipher24 : List ℕ
 cipher24 = 0x6f ∷ 0xb9 ∷ 0x5e ∷ 0x32 ∷ 0x5a ∷ 0xad ∷ 0x1b ∷ 0x87 ∷ 0x8c ∷ 0xdc ∷ 0xf5 ∷ 0x35 ∷ 0x76 ∷ 0x74 ∷ 0xc6 ∷ 0xf2 ∷ []
 
 pub vector24 : encipher Bytes24 key24 plain24 ≡ cipher24
-unfolding add xor turnLeft turnRight word bytesOf wordAt mixed words4 words6 step24 stepped rowsOf schedule keyed round forward bytes firstRounds
+unfolding add xor turnLeft turnRight word bytesOf wordAt mixed words4 words6 mixedRow stepped rowsOf schedule keyed round forward bytes firstRounds
 vector24 = refl
 
 abbrev pub key32 : List ℕ

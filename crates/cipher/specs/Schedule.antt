@@ -29,15 +29,19 @@ unfoldable pub row16 : ℕ → List ℕ → List ℕ
 row16 i t = getD t 0 0 ∷ getD t 1 0 ∷ getD t 2 0 ∷ getD t 1 0 ∷ getD t 3 0 ∷ getD t 1 0 ∷ []
 
 -- ---- 24 bytes: six words, all changed in a step; they are the row
-unfoldable pub step24 : ℕ → List ℕ → List ℕ
-step24 i t =
-    mixed 6 i 0 (getD t 0 0)
-    ∷ mixed 6 i 1 (getD t 1 0)
-    ∷ mixed 6 i 2 (getD t 2 0)
-    ∷ mixed 6 i 3 (getD t 3 0)
-    ∷ mixed 6 i 4 (getD t 4 0)
-    ∷ mixed 6 i 5 (getD t 5 0)
+-- six words at the places 0 to 5 of step i
+unfoldable pub mixedRow : ℕ → ℕ → List ℕ → List ℕ
+mixedRow n i w =
+    mixed n i 0 (getD w 0 0)
+    ∷ mixed n i 1 (getD w 1 0)
+    ∷ mixed n i 2 (getD w 2 0)
+    ∷ mixed n i 3 (getD w 3 0)
+    ∷ mixed n i 4 (getD w 4 0)
+    ∷ mixed n i 5 (getD w 5 0)
     ∷ []
+
+abbrev pub step24 : ℕ → List ℕ → List ℕ
+step24 i t = mixedRow 6 i t
 
 abbrev pub row24 : ℕ → List ℕ → List ℕ
 row24 i t = t

@@ -4,21 +4,11 @@ ghost use Prim.Native.Nat.{_≤_, _<_};
 ghost use lib.ListN.{length};
 ghost use Rattle.cipher.specs.KeySize.{keyLength};
 ghost use Rattle.cipher.specs.Schedule as S;
+use crate::delta::turned;
 use crate::size::KeySize;
 use crate::word::rotate_left;
 use crate::word::word_at;
 use crate::word::words;
-
-const DELTA: [u32; 8] = [
-    0xc3efe9db,
-    0x44626b02,
-    0x79e27c8a,
-    0x78df30ec,
-    0x715ea49e,
-    0xc785da0a,
-    0xe04ef22a,
-    0xe5c40957,
-];
 
 const TURNS: [usize; 6] = [1, 3, 6, 11, 13, 17];
 
@@ -27,7 +17,7 @@ fn mixed(n: usize, i: usize, m: usize, t: u32) -> u32
     requires { ⌜ (0 < n) × (n ≤ 8) × (i < 32) × (m < 6) ⌝ }
     ensures { λ r. ⌜ r ≡ S.mixed n i m t ⌝ }
 {
-    let d = rotate_left(DELTA[i % n], i + m);
+    let d = turned(i % n, i + m);
     rotate_left(std::num::wrapping_add_u32(t, d), TURNS[m])
 }
 
@@ -66,16 +56,17 @@ fn words6(key: &[u8]) -> [u32; 6]
     [w[0], w[1], w[2], w[3], word_at(key, 16), word_at(key, 20)]
 }
 
-fn step24(i: usize, t: [u32; 6]) -> [u32; 6]
-    requires { ⌜ i < 32 ⌝ }
-    ensures { λ r. ⌜ r ≡ S.step24 i t ⌝ }
+// Six words at the places 0 to 5 of step i, for a key of n words.
+fn mixed_row(n: usize, i: usize, w: [u32; 6]) -> [u32; 6]
+    requires { ⌜ (0 < n) × (n ≤ 8) × (i < 32) ⌝ }
+    ensures { λ r. ⌜ r ≡ S.mixedRow n i w ⌝ }
 {
-    let a = mixed(6, i, 0, t[0]);
-    let b = mixed(6, i, 1, t[1]);
-    let c = mixed(6, i, 2, t[2]);
-    let d = mixed(6, i, 3, t[3]);
-    let e = mixed(6, i, 4, t[4]);
-    let f = mixed(6, i, 5, t[5]);
+    let a = mixed(n, i, 0, w[0]);
+    let b = mixed(n, i, 1, w[1]);
+    let c = mixed(n, i, 2, w[2]);
+    let d = mixed(n, i, 3, w[3]);
+    let e = mixed(n, i, 4, w[4]);
+    let f = mixed(n, i, 5, w[5]);
     [a, b, c, d, e, f]
 }
 
@@ -87,7 +78,7 @@ fn schedule24(key: &[u8]) -> [[u32; 6]; 32]
     let mut rows = [[0u32; 6]; 32];
     let mut t = words6(key);
     for i in 0..28 {
-        let u = step24(i, t);
+        let u = mixed_row(6, i, t);
         rows[i] = u;
         t = u;
     }
@@ -112,63 +103,23 @@ fn words8(key: &[u8]) -> [u32; 8]
     ]
 }
 
-// The word that place m of step i works on.
-fn place(i: usize, m: usize) -> usize
-    requires { ⌜ (i < 32) × (m < 6) ⌝ }
-    ensures { λ r. ⌜ (r ≡ S.place i m) × (r < 8) ⌝ }
-{
-    (6 * i + m) % 8
-}
-
-// That word mixed.
-fn mix_at(i: usize, m: usize, t: [u32; 8]) -> [u32; 8]
-    requires { ⌜ (i < 32) × (m < 6) ⌝ }
-    ensures { λ r. ⌜ r ≡ S.mixAt i m t ⌝ }
-{
-    let mut u = t;
-    let j = place(i, m);
-    let w = mixed(8, i, m, t[j]);
-    u[j] = w;
-    u
-}
-
-fn step32(i: usize, t: [u32; 8]) -> [u32; 8]
-    requires { ⌜ i < 32 ⌝ }
-    ensures { λ r. ⌜ r ≡ S.step32 i t ⌝ }
-{
-    let a = mix_at(i, 0, t);
-    let b = mix_at(i, 1, a);
-    let c = mix_at(i, 2, b);
-    let d = mix_at(i, 3, c);
-    let e = mix_at(i, 4, d);
-    mix_at(i, 5, e)
-}
-
-fn row32(i: usize, t: [u32; 8]) -> [u32; 6]
-    requires { ⌜ i < 32 ⌝ }
-    ensures { λ r. ⌜ r ≡ S.row32 i t ⌝ }
-{
-    let a = place(i, 0);
-    let b = place(i, 1);
-    let c = place(i, 2);
-    let d = place(i, 3);
-    let e = place(i, 4);
-    let f = place(i, 5);
-    [t[a], t[b], t[c], t[d], t[e], t[f]]
-}
-
-// The rows of a key of 32 bytes.
+// The rows of a key of 32 bytes. The places that a step works on repeat every four steps.
 fn schedule32(key: &[u8]) -> [[u32; 6]; 32]
     requires { ⌜ length (now key) ≡ 32 ⌝ }
     ensures { λ r. ⌜ r ≡ S.filled S.step32 S.row32 32 (S.words8 (now (key .entry))) ⌝ }
 {
     let mut rows = [[0u32; 6]; 32];
     let mut t = words8(key);
-    for i in 0..32 {
-        let u = step32(i, t);
-        let row = row32(i, u);
-        rows[i] = row;
-        t = u;
+    for j in 0..8 {
+        let a = mixed_row(8, 4 * j, [t[0], t[1], t[2], t[3], t[4], t[5]]);
+        let b = mixed_row(8, 4 * j + 1, [t[6], t[7], a[0], a[1], a[2], a[3]]);
+        let c = mixed_row(8, 4 * j + 2, [a[4], a[5], b[0], b[1], b[2], b[3]]);
+        let d = mixed_row(8, 4 * j + 3, [b[4], b[5], c[0], c[1], c[2], c[3]]);
+        rows[4 * j] = a;
+        rows[4 * j + 1] = b;
+        rows[4 * j + 2] = c;
+        rows[4 * j + 3] = d;
+        t = [c[4], c[5], d[0], d[1], d[2], d[3], d[4], d[5]];
     }
     rows
 }

@@ -24,11 +24,11 @@ loop-again : tie.Need-loop-again Inv-loop μ-loop
 loop-again c =
     let h = c .before .before in
     let i = h .loop .i in
-    let e : c .step24 .result ≡ stepped step24 (i + 1) (h .before .words6 .result)
-    = c .step24 .ensures ∙ ap (step24 i) (h .loop .inv .1) ∙ sym (stepped-more step24 row24 _ _) in (
+    let e : c .mixed-row .result ≡ stepped step24 (i + 1) (h .before .words6 .result)
+    = c .mixed-row .ensures ∙ ap (step24 i) (h .loop .inv .1) ∙ sym (stepped-more step24 row24 _ _) in (
       omega arith,
       e,
-      ap₂ (λ (rs : List (List ℕ)) (v : List ℕ). set rs i v) (h .loop .inv .2) (e) ∙ rows-more step24 row24 i _ (omega arith),
+      ap₂ (λ (rs : List (List ℕ)) (v : List ℕ). set rs i v) (h .loop .inv .2) e ∙ rows-more step24 row24 i _ (omega arith),
     )
 
 returns : tie.Need-returns Inv-loop μ-loop
