@@ -35,6 +35,18 @@ module _ (step row : ℕ → List ℕ → List ℕ) where
       fill-more 32 i blank (row i (stepped step (i + 1) t)) (rowsOf step row i t) (rows-length i t) h
       ∙ rw add-one
 
+  -- four steps one after the other
+  pub four-stepped : (i : ℕ) (t₀ t a b c d : List ℕ) → t ≡ stepped step i t₀ → a ≡ step i t → b ≡ step (i + 1) a → c ≡ step (i + 2) b → d ≡ step (i + 3) c
+      → (a ≡ stepped step (i + 1) t₀) × (b ≡ stepped step (i + 2) t₀) × (c ≡ stepped step (i + 3) t₀) × (d ≡ stepped step (i + 4) t₀)
+  four-stepped i t₀ t a b c d et ea eb ec ed =
+      let pa = ea ∙ ap (step i) et ∙ sym (stepped-more i t₀) in
+      let pb = eb ∙ ap (step (i + 1)) pa ∙ one-more (i + 1) (i + 2) (omega arith) in
+      let pc = ec ∙ ap (step (i + 2)) pb ∙ one-more (i + 2) (i + 3) (omega arith) in
+      (pa, pb, pc, ed ∙ ap (step (i + 3)) pc ∙ one-more (i + 3) (i + 4) (omega arith))
+    where
+      one-more : (m n : ℕ) → m + 1 ≡ n → step m (stepped step m t₀) ≡ stepped step n t₀
+      one-more m n e = sym (stepped-more m t₀) ∙ ap (λ (k : ℕ). stepped step k t₀) e
+
   -- four rows stored one after the other
   pub four-rows : (i : ℕ) (t : List ℕ) (rows : List (List ℕ)) (a b c d : List ℕ) → i + 4 ≤ 32 → rows ≡ filled step row i t
       → a ≡ row i (stepped step (i + 1) t) → b ≡ row (i + 1) (stepped step (i + 2) t)

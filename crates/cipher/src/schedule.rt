@@ -1,10 +1,11 @@
 // LEA's key schedule: 24, 28 or 32 rows of six round keys, by value. Rows past the rounds are zero.
+// The steps are made four at a time: the compiler then knows each step's count, and adds constants.
 ghost use mathlib.Core.Path.{_≡_};
 ghost use Prim.Native.Nat.{_≤_, _<_};
 ghost use lib.ListN.{length};
 ghost use Rattle.cipher.specs.KeySize.{keyLength};
 ghost use Rattle.cipher.specs.Schedule as S;
-use crate::delta::turned;
+use crate::delta::delta;
 use crate::size::KeySize;
 use crate::word::rotate_left;
 use crate::word::word_at;
@@ -17,7 +18,7 @@ fn mixed(n: usize, i: usize, m: usize, t: u32) -> u32
     requires { ⌜ (0 < n) × (n ≤ 8) × (i < 32) × (m < 6) ⌝ }
     ensures { λ r. ⌜ r ≡ S.mixed n i m t ⌝ }
 {
-    let d = turned(i % n, i + m);
+    let d = rotate_left(delta(i % n), i + m);
     rotate_left(std::num::wrapping_add_u32(t, d), TURNS[m])
 }
 
@@ -39,10 +40,16 @@ fn schedule16(key: &[u8]) -> [[u32; 6]; 32]
 {
     let mut rows = [[0u32; 6]; 32];
     let mut t = words(key);
-    for i in 0..24 {
-        let u = step16(i, t);
-        rows[i] = [u[0], u[1], u[2], u[1], u[3], u[1]];
-        t = u;
+    for j in 0..6 {
+        let a = step16(4 * j, t);
+        let b = step16(4 * j + 1, a);
+        let c = step16(4 * j + 2, b);
+        let d = step16(4 * j + 3, c);
+        rows[4 * j] = [a[0], a[1], a[2], a[1], a[3], a[1]];
+        rows[4 * j + 1] = [b[0], b[1], b[2], b[1], b[3], b[1]];
+        rows[4 * j + 2] = [c[0], c[1], c[2], c[1], c[3], c[1]];
+        rows[4 * j + 3] = [d[0], d[1], d[2], d[1], d[3], d[1]];
+        t = d;
     }
     rows
 }
@@ -77,10 +84,16 @@ fn schedule24(key: &[u8]) -> [[u32; 6]; 32]
 {
     let mut rows = [[0u32; 6]; 32];
     let mut t = words6(key);
-    for i in 0..28 {
-        let u = mixed_row(6, i, t);
-        rows[i] = u;
-        t = u;
+    for j in 0..7 {
+        let a = mixed_row(6, 4 * j, t);
+        let b = mixed_row(6, 4 * j + 1, a);
+        let c = mixed_row(6, 4 * j + 2, b);
+        let d = mixed_row(6, 4 * j + 3, c);
+        rows[4 * j] = a;
+        rows[4 * j + 1] = b;
+        rows[4 * j + 2] = c;
+        rows[4 * j + 3] = d;
+        t = d;
     }
     rows
 }

@@ -1,20 +1,19 @@
--- `schedule::schedule24` meets its contract. The invariant: i steps are made, and their rows stored. Assumes nothing.
-use mathlib.Core.Path.{_≡_, refl, sym, ap, ap₂, _∙_}
+-- `schedule::schedule24` meets its contract. The invariant: 4 j steps are made, and their rows stored. Assumes nothing.
+use mathlib.Core.Path.{_≡_, refl, ap, ap₂, _∙_}
 use mathlib.Core.List.{List}
-use Prim.Native.Nat.{ℕ, _+_, _-_, _≤_}
+use Prim.Native.Nat.{ℕ, _+_, _*_, _-_, _≤_}
 use native.Mathlib.Omega.{arith}
 use borrow.Author.Needs.{needs}
-use lib.ListN.{set}
 use Rattle.cipher.specs.Schedule.{step24, row24, stepped, rowsOf, filled}
-use Rattle.cipher.proofs.ScheduleLaws.{stepped-more, rows-more}
+use Rattle.cipher.proofs.ScheduleLaws.{four-stepped, four-rows}
 use Rattle.cipher.proofs.schedule.schedule24.Statement.{statement}
 use Rattle.cipher.proofs.schedule.schedule24.Tie as tie
 
 abbrev Inv-loop : tie.InvT-loop
-Inv-loop key rows₀ t₀ i₀ rows t i = (i ≤ 28) × (t ≡ stepped step24 i t₀) × (rows ≡ filled step24 row24 i t₀)
+Inv-loop key rows₀ t₀ j₀ rows t j = (j ≤ 7) × (t ≡ stepped step24 (4 * j) t₀) × (rows ≡ filled step24 row24 (4 * j) t₀)
 
 abbrev μ-loop : tie.MeasureT-loop
-μ-loop key rows₀ t₀ i₀ rows t i = 28 - i
+μ-loop key rows₀ t₀ j₀ rows t j = 7 - j
 
 loop-holds : tie.Need-loop-holds Inv-loop μ-loop
 unfolding stepped rowsOf
@@ -22,20 +21,22 @@ loop-holds c = (omega arith, refl, refl)
 
 loop-again : tie.Need-loop-again Inv-loop μ-loop
 loop-again c =
-    let h = c .before .before in
-    let i = h .loop .i in
-    let e : c .mixed-row .result ≡ stepped step24 (i + 1) (h .before .words6 .result)
-    = c .mixed-row .ensures ∙ ap (step24 i) (h .loop .inv .1) ∙ sym (stepped-more step24 row24 _ _) in (
+    let h = c .before .before .before .before .before in
+    let j = h .loop .j in
+    let t₀ = h .before .words6 .result in
+    let f = four-stepped step24 row24 (4 * j) t₀ (h .loop .t) _ _ _ _ (h .loop .inv .1) (c .before .before .before .mixed-row .ensures) (c .before .before .mixed-row2 .ensures) (c .before .mixed-row3 .ensures) (c .mixed-row4 .ensures) in
+    let e : 4 * j + 4 ≡ 4 * (j + 1) = omega arith in (
       omega arith,
-      e,
-      ap₂ (λ (rs : List (List ℕ)) (v : List ℕ). set rs i v) (h .loop .inv .2) e ∙ rows-more step24 row24 i _ (omega arith),
+      f .3 ∙ ap (λ (n : ℕ). stepped step24 n t₀) e,
+      four-rows step24 row24 (4 * j) t₀ (h .loop .rows) _ _ _ _ (omega arith) (h .loop .inv .2) (f .0) (f .1) (f .2) (f .3)
+          ∙ ap (λ (n : ℕ). filled step24 row24 n t₀) e,
     )
 
 returns : tie.Need-returns Inv-loop μ-loop
 returns c =
     let h = c .before in
-    let e : h .loop .i ≡ 28 = omega arith in
+    let e : 4 * h .loop .j ≡ 28 = omega arith in
     h .loop .inv .2 ∙ ap₂ (λ (n : ℕ) (t : List ℕ). filled step24 row24 n t) e (h .before .words6 .ensures)
 
 pub schedule24-spec : {M : Type 1} → statement M
-schedule24-spec = tie.close (tie.spec Inv-loop μ-loop (λ c κs. search needs) loop-holds (λ c κs. search needs) (λ c. search needs) (λ c. search needs) (λ c. search needs) (λ c. search needs) loop-again returns)
+schedule24-spec = tie.close (tie.spec Inv-loop μ-loop (λ c κs. search needs) loop-holds (λ c. search needs) (λ c κs. search needs) (λ c. search needs) (λ c. search needs) (λ c κs. search needs) (λ c. search needs) (λ c. search needs) (λ c κs. search needs) (λ c. search needs) (λ c. search needs) (λ c κs. search needs) (λ c. search needs) (λ c. search needs) (λ c. search needs) (λ c. search needs) (λ c. search needs) (λ c. search needs) (λ c. search needs) (λ c. search needs) (λ c. search needs) (λ c. search needs) (λ c. search needs) (λ c. search needs) (λ c. search needs) (λ c. search needs) (λ c. search needs) (λ c. search needs) (λ c. search needs) loop-again returns)
