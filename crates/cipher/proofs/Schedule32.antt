@@ -7,7 +7,7 @@ use mathlib.Core.List.{List, [], _∷_}
 use lib.ListN.{getD, length, set, length-set}
 use Rattle.lists.specs.Tabulation.{tab}
 use Rattle.lists.proofs.TabulationLaws.{tab-is}
-use Rattle.cipher.specs.Schedule.{mixed, mixedRow, place, mixAt, step32, row32, stepped}
+use Rattle.cipher.specs.Schedule.{delta, deltaOf, mixed, mixedRow, place, mixAt, step32, row32, stepped}
 use Rattle.cipher.proofs.ScheduleLaws.{stepped-more}
 
 -- the place, by the step's count mod 4
@@ -17,13 +17,13 @@ place-is i r m z =
     let e : 6 * i + m ≡ 8 * (3 * (i / 4)) + (6 * r + m) = omega arith in
     rw e (omega arith)
 
-mix-is : (i r m : ℕ) (t : List ℕ) → i % 4 ≡ r → mixAt i m t ≡ set t ((6 * r + m) % 8) (mixed 8 i m (getD t ((6 * r + m) % 8) 0))
+mix-is : (i r m : ℕ) (t : List ℕ) → i % 4 ≡ r → mixAt i m t ≡ set t ((6 * r + m) % 8) (mixed (deltaOf 8 i) i m (getD t ((6 * r + m) % 8) 0))
 unfolding mixAt
 mix-is i r m t z = rw (place-is i r m z)
 
 -- a step, its words set one after the other
 put : ℕ → ℕ → ℕ → List ℕ → List ℕ
-put i r m t = set t ((6 * r + m) % 8) (mixed 8 i m (getD t ((6 * r + m) % 8) 0))
+put i r m t = set t ((6 * r + m) % 8) (mixed (deltaOf 8 i) i m (getD t ((6 * r + m) % 8) 0))
 
 step-is : (i r : ℕ) (t : List ℕ) → i % 4 ≡ r → step32 i t ≡ put i r 5 (put i r 4 (put i r 3 (put i r 2 (put i r 1 (put i r 0 t)))))
 unfolding step32 put
@@ -50,19 +50,19 @@ row-is i r t z =
 
 -- the four kinds of steps, on eight words
 module _ (i a b c d e f g h : ℕ) where
-  step-0 : i % 4 ≡ 0 → step32 i (a ∷ b ∷ c ∷ d ∷ e ∷ f ∷ g ∷ h ∷ []) ≡ mixed 8 i 0 a ∷ mixed 8 i 1 b ∷ mixed 8 i 2 c ∷ mixed 8 i 3 d ∷ mixed 8 i 4 e ∷ mixed 8 i 5 f ∷ g ∷ h ∷ []
+  step-0 : i % 4 ≡ 0 → step32 i (a ∷ b ∷ c ∷ d ∷ e ∷ f ∷ g ∷ h ∷ []) ≡ mixed (deltaOf 8 i) i 0 a ∷ mixed (deltaOf 8 i) i 1 b ∷ mixed (deltaOf 8 i) i 2 c ∷ mixed (deltaOf 8 i) i 3 d ∷ mixed (deltaOf 8 i) i 4 e ∷ mixed (deltaOf 8 i) i 5 f ∷ g ∷ h ∷ []
   unfolding put
   step-0 z = step-is i 0 (a ∷ b ∷ c ∷ d ∷ e ∷ f ∷ g ∷ h ∷ []) z
 
-  step-1 : i % 4 ≡ 1 → step32 i (a ∷ b ∷ c ∷ d ∷ e ∷ f ∷ g ∷ h ∷ []) ≡ mixed 8 i 2 a ∷ mixed 8 i 3 b ∷ mixed 8 i 4 c ∷ mixed 8 i 5 d ∷ e ∷ f ∷ mixed 8 i 0 g ∷ mixed 8 i 1 h ∷ []
+  step-1 : i % 4 ≡ 1 → step32 i (a ∷ b ∷ c ∷ d ∷ e ∷ f ∷ g ∷ h ∷ []) ≡ mixed (deltaOf 8 i) i 2 a ∷ mixed (deltaOf 8 i) i 3 b ∷ mixed (deltaOf 8 i) i 4 c ∷ mixed (deltaOf 8 i) i 5 d ∷ e ∷ f ∷ mixed (deltaOf 8 i) i 0 g ∷ mixed (deltaOf 8 i) i 1 h ∷ []
   unfolding put
   step-1 z = step-is i 1 (a ∷ b ∷ c ∷ d ∷ e ∷ f ∷ g ∷ h ∷ []) z
 
-  step-2 : i % 4 ≡ 2 → step32 i (a ∷ b ∷ c ∷ d ∷ e ∷ f ∷ g ∷ h ∷ []) ≡ mixed 8 i 4 a ∷ mixed 8 i 5 b ∷ c ∷ d ∷ mixed 8 i 0 e ∷ mixed 8 i 1 f ∷ mixed 8 i 2 g ∷ mixed 8 i 3 h ∷ []
+  step-2 : i % 4 ≡ 2 → step32 i (a ∷ b ∷ c ∷ d ∷ e ∷ f ∷ g ∷ h ∷ []) ≡ mixed (deltaOf 8 i) i 4 a ∷ mixed (deltaOf 8 i) i 5 b ∷ c ∷ d ∷ mixed (deltaOf 8 i) i 0 e ∷ mixed (deltaOf 8 i) i 1 f ∷ mixed (deltaOf 8 i) i 2 g ∷ mixed (deltaOf 8 i) i 3 h ∷ []
   unfolding put
   step-2 z = step-is i 2 (a ∷ b ∷ c ∷ d ∷ e ∷ f ∷ g ∷ h ∷ []) z
 
-  step-3 : i % 4 ≡ 3 → step32 i (a ∷ b ∷ c ∷ d ∷ e ∷ f ∷ g ∷ h ∷ []) ≡ a ∷ b ∷ mixed 8 i 0 c ∷ mixed 8 i 1 d ∷ mixed 8 i 2 e ∷ mixed 8 i 3 f ∷ mixed 8 i 4 g ∷ mixed 8 i 5 h ∷ []
+  step-3 : i % 4 ≡ 3 → step32 i (a ∷ b ∷ c ∷ d ∷ e ∷ f ∷ g ∷ h ∷ []) ≡ a ∷ b ∷ mixed (deltaOf 8 i) i 0 c ∷ mixed (deltaOf 8 i) i 1 d ∷ mixed (deltaOf 8 i) i 2 e ∷ mixed (deltaOf 8 i) i 3 f ∷ mixed (deltaOf 8 i) i 4 g ∷ mixed (deltaOf 8 i) i 5 h ∷ []
   unfolding put
   step-3 z = step-is i 3 (a ∷ b ∷ c ∷ d ∷ e ∷ f ∷ g ∷ h ∷ []) z
 
@@ -93,66 +93,71 @@ stepped-length zero t = refl
 stepped-length (suc i) t = step-length i (stepped step32 i t) ∙ stepped-length i t
 
 -- a row of mixed words is its six words
-six : (n i : ℕ) (w a : List ℕ) → a ≡ mixedRow n i w → getD a 0 0 ∷ getD a 1 0 ∷ getD a 2 0 ∷ getD a 3 0 ∷ getD a 4 0 ∷ getD a 5 0 ∷ [] ≡ a
+six : (d i : ℕ) (w a : List ℕ) → a ≡ mixedRow d i w → getD a 0 0 ∷ getD a 1 0 ∷ getD a 2 0 ∷ getD a 3 0 ∷ getD a 4 0 ∷ getD a 5 0 ∷ [] ≡ a
 unfolding mixedRow
-six n i w a e = (λ k. getD (e k) 0 0 ∷ getD (e k) 1 0 ∷ getD (e k) 2 0 ∷ getD (e k) 3 0 ∷ getD (e k) 4 0 ∷ getD (e k) 5 0 ∷ []) ∙ sym e
+six d i w a e = (λ z. getD (e z) 0 0 ∷ getD (e z) 1 0 ∷ getD (e z) 2 0 ∷ getD (e z) 3 0 ∷ getD (e z) 4 0 ∷ getD (e z) 5 0 ∷ []) ∙ sym e
 
--- what four steps give: the rows a, b, c and d, and the words after them
-pub record FourSteps (j : ℕ) (t₀ a b c d : List ℕ) : Type 0 where
-  pub row-a : a ≡ row32 (4 * j) (stepped step32 (4 * j + 1) t₀)
-  pub row-b : b ≡ row32 (4 * j + 1) (stepped step32 (4 * j + 2) t₀)
-  pub row-c : c ≡ row32 (4 * j + 2) (stepped step32 (4 * j + 3) t₀)
-  pub row-d : d ≡ row32 (4 * j + 3) (stepped step32 (4 * j + 4) t₀)
-  pub words : getD c 4 0 ∷ getD c 5 0 ∷ getD d 0 0 ∷ getD d 1 0 ∷ getD d 2 0 ∷ getD d 3 0 ∷ getD d 4 0 ∷ getD d 5 0 ∷ [] ≡ stepped step32 (4 * j + 4) t₀
+-- what four steps m0 to m3 give, the next one being m4: the rows a, b, c and d, and the words after them
+pub record FourSteps (m0 m1 m2 m3 m4 : ℕ) (t₀ a b c d : List ℕ) : Type 0 where
+  pub row-a : a ≡ row32 m0 (stepped step32 m1 t₀)
+  pub row-b : b ≡ row32 m1 (stepped step32 m2 t₀)
+  pub row-c : c ≡ row32 m2 (stepped step32 m3 t₀)
+  pub row-d : d ≡ row32 m3 (stepped step32 m4 t₀)
+  pub words : getD c 4 0 ∷ getD c 5 0 ∷ getD d 0 0 ∷ getD d 1 0 ∷ getD d 2 0 ∷ getD d 3 0 ∷ getD d 4 0 ∷ getD d 5 0 ∷ [] ≡ stepped step32 m4 t₀
 
-module _ (j : ℕ) (t₀ t a b c d : List ℕ) (size : length t₀ ≡ 8) (et : t ≡ stepped step32 (4 * j) t₀)
-    (ea : a ≡ mixedRow 8 (4 * j) (getD t 0 0 ∷ getD t 1 0 ∷ getD t 2 0 ∷ getD t 3 0 ∷ getD t 4 0 ∷ getD t 5 0 ∷ []))
-    (eb : b ≡ mixedRow 8 (4 * j + 1) (getD t 6 0 ∷ getD t 7 0 ∷ getD a 0 0 ∷ getD a 1 0 ∷ getD a 2 0 ∷ getD a 3 0 ∷ []))
-    (ec : c ≡ mixedRow 8 (4 * j + 2) (getD a 4 0 ∷ getD a 5 0 ∷ getD b 0 0 ∷ getD b 1 0 ∷ getD b 2 0 ∷ getD b 3 0 ∷ []))
-    (ed : d ≡ mixedRow 8 (4 * j + 3) (getD b 4 0 ∷ getD b 5 0 ∷ getD c 0 0 ∷ getD c 1 0 ∷ getD c 2 0 ∷ getD c 3 0 ∷ [])) where
-  next : (m n : ℕ) → m + 1 ≡ n → stepped step32 n t₀ ≡ step32 m (stepped step32 m t₀)
-  next m n e = ap (λ (k : ℕ). stepped step32 k t₀) (sym e) ∙ stepped-more step32 row32 m t₀
+module _ (m0 m1 m2 m3 m4 : ℕ) (z0 : m0 % 4 ≡ 0) (e1 : m0 + 1 ≡ m1) (e2 : m1 + 1 ≡ m2) (e3 : m2 + 1 ≡ m3) (e4 : m3 + 1 ≡ m4)
+    (t₀ t a b c d : List ℕ) (size : length t₀ ≡ 8) (et : t ≡ stepped step32 m0 t₀)
+    (ea : a ≡ mixedRow (deltaOf 8 m0) m0 (getD t 0 0 ∷ getD t 1 0 ∷ getD t 2 0 ∷ getD t 3 0 ∷ getD t 4 0 ∷ getD t 5 0 ∷ []))
+    (eb : b ≡ mixedRow (deltaOf 8 m1) m1 (getD t 6 0 ∷ getD t 7 0 ∷ getD a 0 0 ∷ getD a 1 0 ∷ getD a 2 0 ∷ getD a 3 0 ∷ []))
+    (ec : c ≡ mixedRow (deltaOf 8 m2) m2 (getD a 4 0 ∷ getD a 5 0 ∷ getD b 0 0 ∷ getD b 1 0 ∷ getD b 2 0 ∷ getD b 3 0 ∷ []))
+    (ed : d ≡ mixedRow (deltaOf 8 m3) m3 (getD b 4 0 ∷ getD b 5 0 ∷ getD c 0 0 ∷ getD c 1 0 ∷ getD c 2 0 ∷ getD c 3 0 ∷ [])) where
+  one-more : (m n : ℕ) → m + 1 ≡ n → stepped step32 n t₀ ≡ step32 m (stepped step32 m t₀)
+  one-more m n e = ap (λ (k : ℕ). stepped step32 k t₀) (sym e) ∙ stepped-more step32 row32 m t₀
 
-  after-0 : stepped step32 (4 * j) t₀ ≡ getD t 0 0 ∷ getD t 1 0 ∷ getD t 2 0 ∷ getD t 3 0 ∷ getD t 4 0 ∷ getD t 5 0 ∷ getD t 6 0 ∷ getD t 7 0 ∷ []
-  after-0 = sym et ∙ eight t (ap length et ∙ stepped-length (4 * j) t₀ ∙ size)
+  after-0 : stepped step32 m0 t₀ ≡ getD t 0 0 ∷ getD t 1 0 ∷ getD t 2 0 ∷ getD t 3 0 ∷ getD t 4 0 ∷ getD t 5 0 ∷ getD t 6 0 ∷ getD t 7 0 ∷ []
+  after-0 = sym et ∙ eight t (ap length et ∙ stepped-length m0 t₀ ∙ size)
 
-  after-1 : stepped step32 (4 * j + 1) t₀ ≡ getD a 0 0 ∷ getD a 1 0 ∷ getD a 2 0 ∷ getD a 3 0 ∷ getD a 4 0 ∷ getD a 5 0 ∷ getD t 6 0 ∷ getD t 7 0 ∷ []
+  after-1 : stepped step32 m1 t₀ ≡ getD a 0 0 ∷ getD a 1 0 ∷ getD a 2 0 ∷ getD a 3 0 ∷ getD a 4 0 ∷ getD a 5 0 ∷ getD t 6 0 ∷ getD t 7 0 ∷ []
   unfolding mixedRow
   after-1 =
-      next (4 * j) (4 * j + 1) (omega arith)
-      ∙ ap (step32 (4 * j)) after-0
-      ∙ step-0 (4 * j) (getD t 0 0) (getD t 1 0) (getD t 2 0) (getD t 3 0) (getD t 4 0) (getD t 5 0) (getD t 6 0) (getD t 7 0) (omega arith)
-      ∙ (λ k. getD (sym ea k) 0 0 ∷ getD (sym ea k) 1 0 ∷ getD (sym ea k) 2 0 ∷ getD (sym ea k) 3 0 ∷ getD (sym ea k) 4 0 ∷ getD (sym ea k) 5 0 ∷ getD t 6 0 ∷ getD t 7 0 ∷ [])
+      one-more m0 m1 e1
+      ∙ ap (step32 m0) after-0
+      ∙ step-0 m0 (getD t 0 0) (getD t 1 0) (getD t 2 0) (getD t 3 0) (getD t 4 0) (getD t 5 0) (getD t 6 0) (getD t 7 0) (omega arith)
+      ∙ (λ z. getD (sym ea z) 0 0 ∷ getD (sym ea z) 1 0 ∷ getD (sym ea z) 2 0 ∷ getD (sym ea z) 3 0 ∷ getD (sym ea z) 4 0 ∷ getD (sym ea z) 5 0 ∷ getD t 6 0 ∷ getD t 7 0 ∷ [])
 
-  after-2 : stepped step32 (4 * j + 2) t₀ ≡ getD b 2 0 ∷ getD b 3 0 ∷ getD b 4 0 ∷ getD b 5 0 ∷ getD a 4 0 ∷ getD a 5 0 ∷ getD b 0 0 ∷ getD b 1 0 ∷ []
+  after-2 : stepped step32 m2 t₀ ≡ getD b 2 0 ∷ getD b 3 0 ∷ getD b 4 0 ∷ getD b 5 0 ∷ getD a 4 0 ∷ getD a 5 0 ∷ getD b 0 0 ∷ getD b 1 0 ∷ []
   unfolding mixedRow
   after-2 =
-      next (4 * j + 1) (4 * j + 2) (omega arith)
-      ∙ ap (step32 (4 * j + 1)) after-1
-      ∙ step-1 (4 * j + 1) (getD a 0 0) (getD a 1 0) (getD a 2 0) (getD a 3 0) (getD a 4 0) (getD a 5 0) (getD t 6 0) (getD t 7 0) (omega arith)
-      ∙ (λ k. getD (sym eb k) 2 0 ∷ getD (sym eb k) 3 0 ∷ getD (sym eb k) 4 0 ∷ getD (sym eb k) 5 0 ∷ getD a 4 0 ∷ getD a 5 0 ∷ getD (sym eb k) 0 0 ∷ getD (sym eb k) 1 0 ∷ [])
+      one-more m1 m2 e2
+      ∙ ap (step32 m1) after-1
+      ∙ step-1 m1 (getD a 0 0) (getD a 1 0) (getD a 2 0) (getD a 3 0) (getD a 4 0) (getD a 5 0) (getD t 6 0) (getD t 7 0) (omega arith)
+      ∙ (λ z. getD (sym eb z) 2 0 ∷ getD (sym eb z) 3 0 ∷ getD (sym eb z) 4 0 ∷ getD (sym eb z) 5 0 ∷ getD a 4 0 ∷ getD a 5 0 ∷ getD (sym eb z) 0 0 ∷ getD (sym eb z) 1 0 ∷ [])
 
-  after-3 : stepped step32 (4 * j + 3) t₀ ≡ getD c 4 0 ∷ getD c 5 0 ∷ getD b 4 0 ∷ getD b 5 0 ∷ getD c 0 0 ∷ getD c 1 0 ∷ getD c 2 0 ∷ getD c 3 0 ∷ []
+  after-3 : stepped step32 m3 t₀ ≡ getD c 4 0 ∷ getD c 5 0 ∷ getD b 4 0 ∷ getD b 5 0 ∷ getD c 0 0 ∷ getD c 1 0 ∷ getD c 2 0 ∷ getD c 3 0 ∷ []
   unfolding mixedRow
   after-3 =
-      next (4 * j + 2) (4 * j + 3) (omega arith)
-      ∙ ap (step32 (4 * j + 2)) after-2
-      ∙ step-2 (4 * j + 2) (getD b 2 0) (getD b 3 0) (getD b 4 0) (getD b 5 0) (getD a 4 0) (getD a 5 0) (getD b 0 0) (getD b 1 0) (omega arith)
-      ∙ (λ k. getD (sym ec k) 4 0 ∷ getD (sym ec k) 5 0 ∷ getD b 4 0 ∷ getD b 5 0 ∷ getD (sym ec k) 0 0 ∷ getD (sym ec k) 1 0 ∷ getD (sym ec k) 2 0 ∷ getD (sym ec k) 3 0 ∷ [])
+      one-more m2 m3 e3
+      ∙ ap (step32 m2) after-2
+      ∙ step-2 m2 (getD b 2 0) (getD b 3 0) (getD b 4 0) (getD b 5 0) (getD a 4 0) (getD a 5 0) (getD b 0 0) (getD b 1 0) (omega arith)
+      ∙ (λ z. getD (sym ec z) 4 0 ∷ getD (sym ec z) 5 0 ∷ getD b 4 0 ∷ getD b 5 0 ∷ getD (sym ec z) 0 0 ∷ getD (sym ec z) 1 0 ∷ getD (sym ec z) 2 0 ∷ getD (sym ec z) 3 0 ∷ [])
 
-  after-4 : stepped step32 (4 * j + 4) t₀ ≡ getD c 4 0 ∷ getD c 5 0 ∷ getD d 0 0 ∷ getD d 1 0 ∷ getD d 2 0 ∷ getD d 3 0 ∷ getD d 4 0 ∷ getD d 5 0 ∷ []
+  after-4 : stepped step32 m4 t₀ ≡ getD c 4 0 ∷ getD c 5 0 ∷ getD d 0 0 ∷ getD d 1 0 ∷ getD d 2 0 ∷ getD d 3 0 ∷ getD d 4 0 ∷ getD d 5 0 ∷ []
   unfolding mixedRow
   after-4 =
-      next (4 * j + 3) (4 * j + 4) (omega arith)
-      ∙ ap (step32 (4 * j + 3)) after-3
-      ∙ step-3 (4 * j + 3) (getD c 4 0) (getD c 5 0) (getD b 4 0) (getD b 5 0) (getD c 0 0) (getD c 1 0) (getD c 2 0) (getD c 3 0) (omega arith)
-      ∙ (λ k. getD c 4 0 ∷ getD c 5 0 ∷ getD (sym ed k) 0 0 ∷ getD (sym ed k) 1 0 ∷ getD (sym ed k) 2 0 ∷ getD (sym ed k) 3 0 ∷ getD (sym ed k) 4 0 ∷ getD (sym ed k) 5 0 ∷ [])
+      one-more m3 m4 e4
+      ∙ ap (step32 m3) after-3
+      ∙ step-3 m3 (getD c 4 0) (getD c 5 0) (getD b 4 0) (getD b 5 0) (getD c 0 0) (getD c 1 0) (getD c 2 0) (getD c 3 0) (omega arith)
+      ∙ (λ z. getD c 4 0 ∷ getD c 5 0 ∷ getD (sym ed z) 0 0 ∷ getD (sym ed z) 1 0 ∷ getD (sym ed z) 2 0 ∷ getD (sym ed z) 3 0 ∷ getD (sym ed z) 4 0 ∷ getD (sym ed z) 5 0 ∷ [])
 
-  pub four-steps : FourSteps j t₀ a b c d
+  pub four-steps : FourSteps m0 m1 m2 m3 m4 t₀ a b c d
   four-steps = record {
-    row-a = sym (ap (row32 (4 * j)) after-1 ∙ row-0 (4 * j) (getD a 0 0) (getD a 1 0) (getD a 2 0) (getD a 3 0) (getD a 4 0) (getD a 5 0) (getD t 6 0) (getD t 7 0) (omega arith) ∙ six 8 (4 * j) (getD t 0 0 ∷ getD t 1 0 ∷ getD t 2 0 ∷ getD t 3 0 ∷ getD t 4 0 ∷ getD t 5 0 ∷ []) a ea);
-    row-b = sym (ap (row32 (4 * j + 1)) after-2 ∙ row-1 (4 * j + 1) (getD b 2 0) (getD b 3 0) (getD b 4 0) (getD b 5 0) (getD a 4 0) (getD a 5 0) (getD b 0 0) (getD b 1 0) (omega arith) ∙ six 8 (4 * j + 1) (getD t 6 0 ∷ getD t 7 0 ∷ getD a 0 0 ∷ getD a 1 0 ∷ getD a 2 0 ∷ getD a 3 0 ∷ []) b eb);
-    row-c = sym (ap (row32 (4 * j + 2)) after-3 ∙ row-2 (4 * j + 2) (getD c 4 0) (getD c 5 0) (getD b 4 0) (getD b 5 0) (getD c 0 0) (getD c 1 0) (getD c 2 0) (getD c 3 0) (omega arith) ∙ six 8 (4 * j + 2) (getD a 4 0 ∷ getD a 5 0 ∷ getD b 0 0 ∷ getD b 1 0 ∷ getD b 2 0 ∷ getD b 3 0 ∷ []) c ec);
-    row-d = sym (ap (row32 (4 * j + 3)) after-4 ∙ row-3 (4 * j + 3) (getD c 4 0) (getD c 5 0) (getD d 0 0) (getD d 1 0) (getD d 2 0) (getD d 3 0) (getD d 4 0) (getD d 5 0) (omega arith) ∙ six 8 (4 * j + 3) (getD b 4 0 ∷ getD b 5 0 ∷ getD c 0 0 ∷ getD c 1 0 ∷ getD c 2 0 ∷ getD c 3 0 ∷ []) d ed);
+    row-a = sym (ap (row32 m0) after-1 ∙ row-0 m0 (getD a 0 0) (getD a 1 0) (getD a 2 0) (getD a 3 0) (getD a 4 0) (getD a 5 0) (getD t 6 0) (getD t 7 0) (omega arith) ∙ six (deltaOf 8 m0) m0 (getD t 0 0 ∷ getD t 1 0 ∷ getD t 2 0 ∷ getD t 3 0 ∷ getD t 4 0 ∷ getD t 5 0 ∷ []) a ea);
+    row-b = sym (ap (row32 m1) after-2 ∙ row-1 m1 (getD b 2 0) (getD b 3 0) (getD b 4 0) (getD b 5 0) (getD a 4 0) (getD a 5 0) (getD b 0 0) (getD b 1 0) (omega arith) ∙ six (deltaOf 8 m1) m1 (getD t 6 0 ∷ getD t 7 0 ∷ getD a 0 0 ∷ getD a 1 0 ∷ getD a 2 0 ∷ getD a 3 0 ∷ []) b eb);
+    row-c = sym (ap (row32 m2) after-3 ∙ row-2 m2 (getD c 4 0) (getD c 5 0) (getD b 4 0) (getD b 5 0) (getD c 0 0) (getD c 1 0) (getD c 2 0) (getD c 3 0) (omega arith) ∙ six (deltaOf 8 m2) m2 (getD a 4 0 ∷ getD a 5 0 ∷ getD b 0 0 ∷ getD b 1 0 ∷ getD b 2 0 ∷ getD b 3 0 ∷ []) c ec);
+    row-d = sym (ap (row32 m3) after-4 ∙ row-3 m3 (getD c 4 0) (getD c 5 0) (getD d 0 0) (getD d 1 0) (getD d 2 0) (getD d 3 0) (getD d 4 0) (getD d 5 0) (omega arith) ∙ six (deltaOf 8 m3) m3 (getD b 4 0 ∷ getD b 5 0 ∷ getD c 0 0 ∷ getD c 1 0 ∷ getD c 2 0 ∷ getD c 3 0 ∷ []) d ed);
     words = sym after-4;
   }
+
+-- a row that the code makes with δk
+pub named : (k m : ℕ) (w a : List ℕ) → m % 8 ≡ k → a ≡ mixedRow (getD delta k 0) m w → a ≡ mixedRow (deltaOf 8 m) m w
+named k m w a e h = h ∙ ap (λ (n : ℕ). mixedRow (getD delta n 0) m w) (sym e)

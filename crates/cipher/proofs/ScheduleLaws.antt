@@ -1,4 +1,4 @@
--- Laws of the key schedule: one row more, or four, in a loop that fills the rows, and that every round key is a word.
+-- Laws of the key schedule: one step and one row more in a loop that fills the rows, and that every round key is a word.
 -- Assumes nothing.
 use mathlib.Core.Path.{_≡_, refl, sym, ap, _∙_}
 use Prim.Native.Nat.{ℕ, zero, suc, _+_, _-_, _*_, _%_, _^_, _≤_, _<_}
@@ -10,7 +10,7 @@ use lib.ListN.{getD, length, set, replicate, length-append}
 use Rattle.lists.specs.Blocks.{Below, Bytes}
 use Rattle.lists.proofs.PartLaws.{fill-more}
 use Rattle.cipher.specs.Word.{add, turnLeft, word, wordAt}
-use Rattle.cipher.specs.Schedule.{turns, mixed, mixedRow, step16, row16, step24, row24, place, mixAt, step32, row32, words4, words6, words8, stepped, rowsOf, blank, filled, schedule}
+use Rattle.cipher.specs.Schedule.{delta, deltaOf, turns, mixed, mixedFour, mixedRow, step16, row16, step24, row24, place, mixAt, step32, row32, words4, words6, words8, stepped, rowsOf, blank, filled, schedule}
 use Rattle.cipher.specs.KeySize.{rounds}
 use Rattle.cipher.specs.declared.size.KeySize.{KeySize}
 use Rattle.cipher.specs.declared.size.KeySize.the-variants.{Bytes16, Bytes24, Bytes32}
@@ -35,41 +35,24 @@ module _ (step row : ℕ → List ℕ → List ℕ) where
       fill-more 32 i blank (row i (stepped step (i + 1) t)) (rowsOf step row i t) (rows-length i t) h
       ∙ rw add-one
 
-  -- four steps one after the other
-  pub four-stepped : (i : ℕ) (t₀ t a b c d : List ℕ) → t ≡ stepped step i t₀ → a ≡ step i t → b ≡ step (i + 1) a → c ≡ step (i + 2) b → d ≡ step (i + 3) c
-      → (a ≡ stepped step (i + 1) t₀) × (b ≡ stepped step (i + 2) t₀) × (c ≡ stepped step (i + 3) t₀) × (d ≡ stepped step (i + 4) t₀)
-  four-stepped i t₀ t a b c d et ea eb ec ed =
-      let pa = ea ∙ ap (step i) et ∙ sym (stepped-more i t₀) in
-      let pb = eb ∙ ap (step (i + 1)) pa ∙ one-more (i + 1) (i + 2) (omega arith) in
-      let pc = ec ∙ ap (step (i + 2)) pb ∙ one-more (i + 2) (i + 3) (omega arith) in
-      (pa, pb, pc, ed ∙ ap (step (i + 3)) pc ∙ one-more (i + 3) (i + 4) (omega arith))
-    where
-      one-more : (m n : ℕ) → m + 1 ≡ n → step m (stepped step m t₀) ≡ stepped step n t₀
-      one-more m n e = sym (stepped-more m t₀) ∙ ap (λ (k : ℕ). stepped step k t₀) e
+  -- the row of step m stored at its place, the next step being n
+  pub stored : (m n : ℕ) (t : List ℕ) (rows : List (List ℕ)) (a : List ℕ) → m + 1 ≡ n → m < 32 → rows ≡ filled step row m t
+      → a ≡ row m (stepped step n t) → set rows m a ≡ filled step row n t
+  stored m n t rows a e h er ea =
+      (λ k. set (er k) m (ea k))
+      ∙ ap (λ (k : ℕ). set (filled step row m t) m (row m (stepped step k t))) (sym e)
+      ∙ rows-more m t h
+      ∙ ap (λ (k : ℕ). filled step row k t) e
 
-  -- four rows stored one after the other
-  pub four-rows : (i : ℕ) (t : List ℕ) (rows : List (List ℕ)) (a b c d : List ℕ) → i + 4 ≤ 32 → rows ≡ filled step row i t
-      → a ≡ row i (stepped step (i + 1) t) → b ≡ row (i + 1) (stepped step (i + 2) t)
-      → c ≡ row (i + 2) (stepped step (i + 3) t) → d ≡ row (i + 3) (stepped step (i + 4) t)
-      → set (set (set (set rows i a) (i + 1) b) (i + 2) c) (i + 3) d ≡ filled step row (i + 4) t
-  four-rows i t rows a b c d h er ea eb ec ed =
-      (λ k. set (set (set (set (er k) i (ea k)) (i + 1) (eb k)) (i + 2) (ec k)) (i + 3) (ed k))
-      ∙ ap (λ (r : List (List ℕ)). set (set (set r (i + 1) B) (i + 2) C) (i + 3) D) (rows-more i t (omega arith))
-      ∙ ap (λ (r : List (List ℕ)). set (set r (i + 2) C) (i + 3) D) (one-more (i + 1) (i + 2) (omega arith) (omega arith))
-      ∙ ap (λ (r : List (List ℕ)). set r (i + 3) D) (one-more (i + 2) (i + 3) (omega arith) (omega arith))
-      ∙ one-more (i + 3) (i + 4) (omega arith) (omega arith)
-    where
-      B : List ℕ
-      B = row (i + 1) (stepped step (i + 2) t)
-
-      C : List ℕ
-      C = row (i + 2) (stepped step (i + 3) t)
-
-      D : List ℕ
-      D = row (i + 3) (stepped step (i + 4) t)
-
-      one-more : (m n : ℕ) → m + 1 ≡ n → m < 32 → set (filled step row m t) m (row m (stepped step n t)) ≡ filled step row n t
-      one-more m n e l = ap (λ (k : ℕ). set (filled step row m t) m (row m (stepped step k t))) (sym e) ∙ rows-more m t l ∙ ap (λ (k : ℕ). filled step row k t) e
+-- a step whose δ the code names: δk of w constants
+module _ (mix : ℕ → ℕ → List ℕ → List ℕ) (w : ℕ) (t₀ : List ℕ) where
+  pub next : (k m n : ℕ) (t u : List ℕ) → m % w ≡ k → m + 1 ≡ n → t ≡ stepped (λ i. mix (deltaOf w i) i) m t₀
+      → u ≡ mix (getD delta k 0) m t → u ≡ stepped (λ i. mix (deltaOf w i) i) n t₀
+  next k m n t u e f et eu =
+      eu
+      ∙ (λ z. mix (getD delta (sym e z) 0) m (et z))
+      ∙ sym (stepped-more (λ i. mix (deltaOf w i) i) (λ i t. t) m t₀)
+      ∙ ap (λ (l : ℕ). stepped (λ i. mix (deltaOf w i) i) l t₀) f
 
 -- ---- every round key is a word
 
@@ -104,10 +87,10 @@ rows-joined : {l r : List (List ℕ)} → Rows l → Rows r → Rows (l ++ r)
 rows-joined none t = t
 rows-joined (more h s) t = more h (rows-joined s t)
 
-stored : {l : List ℕ} → (i v : ℕ) → v < 2 ^ 32 → Words l → Words (set l i v)
-stored i v h none = none
-stored zero v h (more x t) = more h t
-stored (suc i) v h (more x t) = more x (stored i v h t)
+set-words : {l : List ℕ} → (i v : ℕ) → v < 2 ^ 32 → Words l → Words (set l i v)
+set-words i v h none = none
+set-words zero v h (more x t) = more h t
+set-words (suc i) v h (more x t) = more x (set-words i v h t)
 
 same : (n : ℕ) → Words (replicate n 0)
 same zero = none
@@ -121,9 +104,9 @@ pub wordAt-word : (b : List ℕ) (i : ℕ) → Bytes b → wordAt b i < 2 ^ 32
 unfolding wordAt word
 wordAt-word b i h = omega (arith, h i, h (i + 1), h (i + 2), h (i + 3))
 
-mixed-word : (n i m t : ℕ) → mixed n i m t < 2 ^ 32
+mixed-word : (d i m t : ℕ) → mixed d i m t < 2 ^ 32
 unfolding mixed
-mixed-word n i m t = left-word (getD turns m 0 % 32) _ (omega arith) (add-word t _)
+mixed-word d i m t = left-word (getD turns m 0 % 32) _ (omega arith) (add-word t _)
 
 words4-words : (b : List ℕ) → Bytes b → Words (words4 b)
 unfolding words4
@@ -139,24 +122,24 @@ words8-words b h =
     joined (words4-words b h)
     (more (wordAt-word b 16 h) (more (wordAt-word b 20 h) (more (wordAt-word b 24 h) (more (wordAt-word b 28 h) none))))
 
-step16-words : (i : ℕ) (t : List ℕ) → Words t → Words (step16 i t)
-unfolding step16
-step16-words i t h = more (mixed-word 4 i 0 _) (more (mixed-word 4 i 1 _) (more (mixed-word 4 i 2 _) (more (mixed-word 4 i 3 _) none)))
+mixedFour-words : (d i : ℕ) (t : List ℕ) → Words (mixedFour d i t)
+unfolding mixedFour
+mixedFour-words d i t = more (mixed-word d i 0 _) (more (mixed-word d i 1 _) (more (mixed-word d i 2 _) (more (mixed-word d i 3 _) none)))
 
 row16-words : (i : ℕ) (t : List ℕ) → Words t → Words (row16 i t)
 unfolding row16
 row16-words i t h = more (below h 0) (more (below h 1) (more (below h 2) (more (below h 1) (more (below h 3) (more (below h 1) none)))))
 
-mixedRow-words : (n i : ℕ) (t : List ℕ) → Words (mixedRow n i t)
+mixedRow-words : (d i : ℕ) (t : List ℕ) → Words (mixedRow d i t)
 unfolding mixedRow
-mixedRow-words n i t =
-    more (mixed-word n i 0 _)
-    (more (mixed-word n i 1 _)
-    (more (mixed-word n i 2 _) (more (mixed-word n i 3 _) (more (mixed-word n i 4 _) (more (mixed-word n i 5 _) none)))))
+mixedRow-words d i t =
+    more (mixed-word d i 0 _)
+    (more (mixed-word d i 1 _)
+    (more (mixed-word d i 2 _) (more (mixed-word d i 3 _) (more (mixed-word d i 4 _) (more (mixed-word d i 5 _) none)))))
 
 mixAt-words : (i m : ℕ) (t : List ℕ) → Words t → Words (mixAt i m t)
 unfolding mixAt
-mixAt-words i m t h = stored (place i m) _ (mixed-word 8 i m _) h
+mixAt-words i m t h = set-words (place i m) _ (mixed-word (deltaOf 8 i) i m _) h
 
 step32-words : (i : ℕ) (t : List ℕ) → Words t → Words (step32 i t)
 unfolding step32
@@ -185,6 +168,6 @@ module _ (step row : ℕ → List ℕ → List ℕ) (hs : (i : ℕ) (t : List �
 
 pub schedule-words : (z : KeySize) (key : List ℕ) → Bytes key → RowsOfWords (schedule z key)
 unfolding schedule
-schedule-words Bytes16 key h = filled-words step16 row16 step16-words row16-words (words4 key) (words4-words key h) 24
-schedule-words Bytes24 key h = filled-words step24 row24 (λ i t w. mixedRow-words 6 i t) (λ i t w. w) (words6 key) (words6-words key h) 28
+schedule-words Bytes16 key h = filled-words step16 row16 (λ i t w. mixedFour-words (deltaOf 4 i) i t) row16-words (words4 key) (words4-words key h) 24
+schedule-words Bytes24 key h = filled-words step24 row24 (λ i t w. mixedRow-words (deltaOf 6 i) i t) (λ i t w. w) (words6 key) (words6-words key h) 28
 schedule-words Bytes32 key h = filled-words step32 row32 step32-words row32-words (words8 key) (words8-words key h) 32

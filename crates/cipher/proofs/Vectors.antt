@@ -5,7 +5,7 @@ use mathlib.Core.Path.{_≡_, refl}
 use Prim.Native.Nat.{ℕ}
 use mathlib.Core.List.{List, [], _∷_}
 use Rattle.cipher.specs.Word.{add, xor, turnLeft, turnRight, word, bytesOf, wordAt}
-use Rattle.cipher.specs.Schedule.{mixed, mixedRow, step16, row16, place, mixAt, step32, row32, words4, words6, words8, stepped, rowsOf, schedule}
+use Rattle.cipher.specs.Schedule.{mixed, mixedFour, mixedRow, row16, place, mixAt, step32, row32, words4, words6, words8, stepped, rowsOf, schedule}
 use Rattle.cipher.specs.Lea.{keyed, round, forward, bytes, firstRounds, encipher}
 use Rattle.cipher.specs.declared.size.KeySize.the-variants.{Bytes16, Bytes24, Bytes32}
 
@@ -19,7 +19,7 @@ abbrev pub cipher16 : List ℕ
 cipher16 = 0x9f ∷ 0xc8 ∷ 0x4e ∷ 0x35 ∷ 0x28 ∷ 0xc6 ∷ 0xc6 ∷ 0x18 ∷ 0x55 ∷ 0x32 ∷ 0xc7 ∷ 0xa7 ∷ 0x04 ∷ 0x64 ∷ 0x8b ∷ 0xfd ∷ []
 
 pub vector16 : encipher Bytes16 key16 plain16 ≡ cipher16
-unfolding add xor turnLeft turnRight word bytesOf wordAt mixed words4 step16 row16 stepped rowsOf schedule keyed round forward bytes firstRounds
+unfolding add xor turnLeft turnRight word bytesOf wordAt mixed words4 mixedFour row16 stepped rowsOf schedule keyed round forward bytes firstRounds
 vector16 = refl
 
 abbrev pub key24 : List ℕ

@@ -17,31 +17,37 @@ delta = 0xc3efe9db ∷ 0x44626b02 ∷ 0x79e27c8a ∷ 0x78df30ec ∷ 0x715ea49e �
 abbrev pub turns : List ℕ
 turns = 1 ∷ 3 ∷ 6 ∷ 11 ∷ 13 ∷ 17 ∷ []
 
--- a word t at place m of step i, for a key of n words
+-- δ of step i, for a key of n words
+abbrev pub deltaOf : ℕ → ℕ → ℕ
+deltaOf n i = getD delta (i % n) 0
+
+-- a word t at place m of step i, with the step's δ
 unfoldable pub mixed : ℕ → ℕ → ℕ → ℕ → ℕ
-mixed n i m t = rol (getD turns m 0) (add t (rol (i + m) (getD delta (i % n) 0)))
+mixed d i m t = rol (getD turns m 0) (add t (rol (i + m) d))
 
 -- ---- 16 bytes: four words, all changed in a step; word 1 stands three times in the row
-unfoldable pub step16 : ℕ → List ℕ → List ℕ
-step16 i t = mixed 4 i 0 (getD t 0 0) ∷ mixed 4 i 1 (getD t 1 0) ∷ mixed 4 i 2 (getD t 2 0) ∷ mixed 4 i 3 (getD t 3 0) ∷ []
+unfoldable pub mixedFour : ℕ → ℕ → List ℕ → List ℕ
+mixedFour d i t = mixed d i 0 (getD t 0 0) ∷ mixed d i 1 (getD t 1 0) ∷ mixed d i 2 (getD t 2 0) ∷ mixed d i 3 (getD t 3 0) ∷ []
+
+abbrev pub step16 : ℕ → List ℕ → List ℕ
+step16 i t = mixedFour (deltaOf 4 i) i t
 
 unfoldable pub row16 : ℕ → List ℕ → List ℕ
 row16 i t = getD t 0 0 ∷ getD t 1 0 ∷ getD t 2 0 ∷ getD t 1 0 ∷ getD t 3 0 ∷ getD t 1 0 ∷ []
 
 -- ---- 24 bytes: six words, all changed in a step; they are the row
--- six words at the places 0 to 5 of step i
 unfoldable pub mixedRow : ℕ → ℕ → List ℕ → List ℕ
-mixedRow n i w =
-    mixed n i 0 (getD w 0 0)
-    ∷ mixed n i 1 (getD w 1 0)
-    ∷ mixed n i 2 (getD w 2 0)
-    ∷ mixed n i 3 (getD w 3 0)
-    ∷ mixed n i 4 (getD w 4 0)
-    ∷ mixed n i 5 (getD w 5 0)
+mixedRow d i w =
+    mixed d i 0 (getD w 0 0)
+    ∷ mixed d i 1 (getD w 1 0)
+    ∷ mixed d i 2 (getD w 2 0)
+    ∷ mixed d i 3 (getD w 3 0)
+    ∷ mixed d i 4 (getD w 4 0)
+    ∷ mixed d i 5 (getD w 5 0)
     ∷ []
 
 abbrev pub step24 : ℕ → List ℕ → List ℕ
-step24 i t = mixedRow 6 i t
+step24 i t = mixedRow (deltaOf 6 i) i t
 
 abbrev pub row24 : ℕ → List ℕ → List ℕ
 row24 i t = t
@@ -51,7 +57,7 @@ unfoldable pub place : ℕ → ℕ → ℕ
 place i m = (6 * i + m) % 8
 
 unfoldable pub mixAt : ℕ → ℕ → List ℕ → List ℕ
-mixAt i m t = set t (place i m) (mixed 8 i m (getD t (place i m) 0))
+mixAt i m t = set t (place i m) (mixed (deltaOf 8 i) i m (getD t (place i m) 0))
 
 unfoldable pub step32 : ℕ → List ℕ → List ℕ
 step32 i t = mixAt i 5 (mixAt i 4 (mixAt i 3 (mixAt i 2 (mixAt i 1 (mixAt i 0 t)))))

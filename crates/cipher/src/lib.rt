@@ -4,7 +4,6 @@
 pub mod size; // size.rt: the three key sizes and the lengths that go with them
 pub mod refusal; // refusal.rt: what an operation refuses, by number
 pub mod word; // word.rt: 32-bit words
-mod delta; // delta.rt: the constants of the schedule
 pub mod schedule; // schedule.rt: round keys from a key
 pub mod round; // round.rt: a round of LEA, and the same undone
 pub mod rows; // rows.rt: blocks under the rows of a schedule

@@ -1,20 +1,12 @@
-use native.Mathlib.Nat.{mod-lt}
-use native.Mathlib.Omega.{arith}
 use borrow.Author.Needs.{needs}
 use Rattle.cipher.specs.Word.{add}
 use Rattle.cipher.specs.Schedule.{mixed}
 use Rattle.cipher.proofs.schedule.mixed.Statement.{statement}
 use Rattle.cipher.proofs.schedule.mixed.Tie as tie
 
-delta-requires : tie.Need-delta-requires
-delta-requires c κs =
-    let l = mod-lt (c .args .i) (c .pre .0) in
-    omega arith
-
 returns : tie.Need-returns
 unfolding mixed add
-returns c =
-    rw (c .rotate-left2 .ensures, c .before .wrapping-add-u32 .ensures, c .before .before .rotate-left .ensures, c .before .before .before .delta .ensures)
+returns c = rw (c .rotate-left2 .ensures, c .before .wrapping-add-u32 .ensures, c .before .before .rotate-left .ensures)
 
 pub mixed-spec : {M : Type 1} → statement M
-mixed-spec = tie.close (tie.spec (λ c. search needs) delta-requires (λ c. search needs) (λ c κs. search needs) (λ c κs. search needs) (λ c. search needs) (λ c. search needs) (λ c κs. search needs) returns)
+mixed-spec = tie.close (tie.spec (λ c. search needs) (λ c κs. search needs) (λ c κs. search needs) (λ c. search needs) (λ c. search needs) (λ c κs. search needs) returns)

@@ -1,0 +1,11 @@
+use borrow.Author.Needs.{needs}
+use Rattle.cipher.specs.Schedule.{mixedFour}
+use Rattle.cipher.proofs.schedule.mixed_four.Statement.{statement}
+use Rattle.cipher.proofs.schedule.mixed_four.Tie as tie
+
+returns : tie.Need-returns
+unfolding mixedFour
+returns c = cc
+
+pub mixed-four-spec : {M : Type 1} → statement M
+mixed-four-spec = tie.close (tie.spec (λ c. search needs) (λ c κs. search needs) (λ c. search needs) (λ c κs. search needs) (λ c. search needs) (λ c κs. search needs) (λ c. search needs) (λ c κs. search needs) returns)
