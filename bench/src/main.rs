@@ -4,7 +4,8 @@ use reference::{lea, Size};
 use std::hint::black_box as hide;
 use std::time::{Duration, Instant};
 
-/// How long one timed run of calls should last, and how many there are of each version.
+/// How long one timed run of calls should last, and how many there are of each version (fewer where
+/// a single call is longer).
 const RUN: Duration = Duration::from_micros(20);
 const RUNS: usize = 12_000;
 
@@ -31,7 +32,8 @@ fn calls(f: &mut impl FnMut()) -> u32 {
 fn measure(name: &str, size: Size, mut rattle: impl FnMut(), mut rust: impl FnMut()) {
     let (n, m) = (calls(&mut rattle), calls(&mut rust));
     let (mut a, mut b) = (f64::INFINITY, f64::INFINITY);
-    for _ in 0..RUNS {
+    let runs = if n == 1 { RUNS / 50 } else { RUNS };
+    for _ in 0..runs {
         a = a.min(timed(n, &mut rattle));
         b = b.min(timed(m, &mut rust));
     }
@@ -66,8 +68,31 @@ fn cipher(size: Size) {
     );
 }
 
+/// Enciphering in a loop over 4,096 blocks.
+fn chain(size: Size) {
+    let key: Vec<u8> = (0..size.key_bytes() as u8).map(|i| 7 * i).collect();
+    let key = key.as_slice();
+    let text: Vec<u8> = (0..65_536u32)
+        .map(|i| (i.wrapping_mul(2_654_435_761) >> 24) as u8)
+        .collect();
+    let text = text.as_slice();
+    let mut out = [0; 16];
+    measure(
+        "chain 65536",
+        size,
+        || {
+            _ = hide(bowlinette::bench_chain(
+                hide(key),
+                hide(text),
+                hide(&mut out),
+            ))
+        },
+        || _ = hide(&lea::chain(hide(key), hide(text))),
+    );
+}
+
 fn main() {
-    println!("ns per call, the fastest of {RUNS} runs of each version");
+    println!("ns per call, the fastest of many runs of each version");
     let (key, ratio) = ("key bytes", "ratio");
     println!(
         "{:<12} {key:>9} {:>12} {:>12} {ratio:>8}",
@@ -75,5 +100,6 @@ fn main() {
     );
     for size in Size::ALL {
         cipher(size);
+        chain(size);
     }
 }

@@ -31,6 +31,13 @@ mod c {
             round: usize,
             row: *mut u32,
         ) -> u32;
+        pub fn bowlinette_bench_chain(
+            key: *const u8,
+            key_length: usize,
+            text: *const u8,
+            text_length: usize,
+            out: *mut u8,
+        ) -> u32;
     }
 }
 
@@ -84,4 +91,19 @@ pub fn first_rounds(key: &[u8], rounds: usize, block: &[u8], out: &mut [u8; 16])
 #[inline]
 pub fn round_keys(key: &[u8], round: usize, row: &mut [u32; 6]) -> u32 {
     unsafe { c::bowlinette_round_keys(key.as_ptr(), key.len(), round, row.as_mut_ptr()) }
+}
+
+/// CMAC's chaining value after the whole blocks of a text, into out. Not in the header: it is there
+/// to time a loop over blocks.
+#[inline]
+pub fn bench_chain(key: &[u8], text: &[u8], out: &mut [u8; 16]) -> u32 {
+    unsafe {
+        c::bowlinette_bench_chain(
+            key.as_ptr(),
+            key.len(),
+            text.as_ptr(),
+            text.len(),
+            out.as_mut_ptr(),
+        )
+    }
 }

@@ -231,3 +231,17 @@ pub fn round_keys(key: &[u8], number: usize) -> Result<Row, u32> {
     let size = schedule(key, &mut rows)?;
     Ok(rows[number % size.rounds()])
 }
+
+/// CMAC's chaining value after the whole blocks of a text (SP 800-38B, MAC generation).
+#[inline]
+pub fn chain(key: &[u8], text: &[u8]) -> Result<Block, u32> {
+    let mut rows = EMPTY;
+    let size = schedule(key, &mut rows)?;
+    let rows = &rows[..size.rounds()];
+    let mut x = [0; 4];
+    for whole in text.chunks_exact(16) {
+        let m = state(whole.try_into().unwrap());
+        x = forward(rows, std::array::from_fn(|i| x[i] ^ m[i]));
+    }
+    Ok(block(x))
+}
