@@ -13,7 +13,7 @@ use Rattle.lists.specs.Blocks.{zeros}
 use Rattle.lists.specs.Refusals.{first}
 use Rattle.lists.proofs.RefusalLaws.{first-hit, first-pass}
 use Rattle.cipher.specs.KeySize.{keyLength, sizeBy, sizeOfKey}
-use Rattle.cipher.specs.Answers.{keyTests, blockTests, keySize, onBlock}
+use Rattle.cipher.specs.Answers.{keyLengthTests, keyTests, blockTests, keyLengthSize, keySize, onBlock}
 use Rattle.cipher.specs.declared.size.KeySize.{KeySize}
 use Rattle.cipher.specs.declared.size.KeySize.the-variants.{Bytes16, Bytes24, Bytes32}
 use Rattle.cipher.specs.declared.size.SizeFound.{SizeFound}
@@ -46,22 +46,31 @@ good-key n Bytes16 e = rw e
 good-key n Bytes24 e = rw e
 good-key n Bytes32 e = rw e
 
-size-is : (key : List ℕ) (z : KeySize) → length key ≡ keyLength z → keySize key ≡ z
-unfolding keySize
-size-is key Bytes16 e = rw e
-size-is key Bytes24 e = rw e
-size-is key Bytes32 e = rw e
+size-is : (n : ℕ) (z : KeySize) → n ≡ keyLength z → keyLengthSize n ≡ z
+unfolding keyLengthSize
+size-is n Bytes16 e = rw e
+size-is n Bytes24 e = rw e
+size-is n Bytes32 e = rw e
+
+-- the test on the length of a key, and then those of `ts`, which may know its size
+module _ {A : Type 0} (n : ℕ) (ts : KeySize → List (Bool × ℕ)) (refuse : ℕ → A) (go : KeySize → A) where
+  pub length-refused : sizeOfKey n ≡ Unknown → first (keyLengthTests n ++ ts (keyLengthSize n)) refuse (go (keyLengthSize n)) ≡ refuse 1
+  length-refused e = first-hit (badKey n) 1 (ts (keyLengthSize n)) refuse (go (keyLengthSize n)) (bad-key n e)
+
+  pub length-taken : (z : KeySize) → sizeOfKey n ≡ Found z
+      → first (keyLengthTests n ++ ts (keyLengthSize n)) refuse (go (keyLengthSize n)) ≡ first (ts z) refuse (go z)
+  length-taken z e =
+      let l = found-length keyLength n z e in
+      first-pass (badKey n) 1 (ts (keyLengthSize n)) refuse (go (keyLengthSize n)) (good-key n z l)
+      ∙ ap (λ (y : KeySize). first (ts y) refuse (go y)) (size-is n z l)
 
 -- the tests on a key, and then those of `ts`
 module _ {A : Type 0} (key : List ℕ) (ts : List (Bool × ℕ)) (refuse : ℕ → A) (go : KeySize → A) where
   pub key-refused : sizeOfKey (length key) ≡ Unknown → first (keyTests key ++ ts) refuse (go (keySize key)) ≡ refuse 1
-  key-refused e = first-hit (badKey (length key)) 1 ts refuse (go (keySize key)) (bad-key (length key) e)
+  key-refused e = length-refused (length key) (λ z. ts) refuse go e
 
   pub key-taken : (z : KeySize) → sizeOfKey (length key) ≡ Found z → first (keyTests key ++ ts) refuse (go (keySize key)) ≡ first ts refuse (go z)
-  key-taken z e =
-      let l = found-length keyLength (length key) z e in
-      first-pass (badKey (length key)) 1 ts refuse (go (keySize key)) (good-key (length key) z l)
-      ∙ ap (λ (y : KeySize). first ts refuse (go y)) (size-is key z l)
+  key-taken z e = length-taken (length key) (λ z. ts) refuse go z e
 
 module _ (key b : List ℕ) (f : KeySize → List ℕ) where
   pub on-key : sizeOfKey (length key) ≡ Unknown → onBlock key b f ≡ (1, zeros)

@@ -16,7 +16,7 @@ use Rattle.lists.proofs.EveryLaws.{and-true, true-and, every-all, all-every}
 use Rattle.lists.proofs.RefusalLaws.{Clear}
 use Rattle.cipher.specs.KeySize.{rounds, chainLength}
 use Rattle.cipher.specs.Coding.{OneToOne, Permutation, Permutations, codingAt, setOf}
-use Rattle.cipher.specs.Chain.{setLength, roundBytes, maskAt, maskIn, roundCodings, CodingRule, WordRule, MaskRule, Chain, LoneSet, isOneToOne, arePermutations, codingRuleHolds, wordByte, wordRuleHolds, maskLimit, maskRuleHolds, setTests, chainTests}
+use Rattle.cipher.specs.Chain.{setLength, roundBytes, maskAt, maskIn, roundCodings, CodingRule, WordRule, MaskRule, Chain, LoneSet, isOneToOne, arePermutations, codingRuleHolds, wordRuleHolds, maskLimit, maskRuleHolds, setTests, chainTests}
 use Rattle.cipher.specs.declared.size.KeySize.{KeySize}
 use Rattle.cipher.proofs.CodingLaws.{Agree}
 use Rattle.cipher.proofs.RoundLaw.{ValidRound}
@@ -104,6 +104,13 @@ coding-in ch l k = λ i v. at v i
         let e : setLength * suc l + (16 * k + v) ≡ 16 * (32 * suc l + k) + v = omega arith in
         getD-drop (setLength * suc l) ch (16 * k + v) 0 ∙ ap (λ (n : ℕ). getD ch n 0) e
 
+-- byte k of word 0 of set l, and of word 3 of the set behind it
+abbrev front : List ℕ → ℕ → ℕ → ℕ
+front ch l k = getD (drop (setLength * suc l) ch) k 0
+
+abbrev third : List ℕ → ℕ → ℕ → ℕ
+third ch l k = getD (drop (setLength * suc (suc l)) ch) (128 * 3 + k) 0
+
 module _ (r : ℕ) (ch : List ℕ) where
   pub codings-tested : codingRuleHolds r ch ≡ true → CodingRule r ch
   unfolding codingRuleHolds
@@ -136,21 +143,21 @@ module _ (r : ℕ) (ch : List ℕ) where
   pub word-tested : wordRuleHolds r ch ≡ true → WordRule r ch
   unfolding wordRuleHolds
   word-tested t l j v hl hj hv =
-      let e = eqb-true (wordByte ch (suc l) 3 (16 * j + v)) (wordByte ch l 0 (16 * j + v))
-      (every-all 128 (λ k. eqb (wordByte ch (suc l) 3 k) (wordByte ch l 0 k))
-      (every-all r (λ l. every 128 (λ k. eqb (wordByte ch (suc l) 3 k) (wordByte ch l 0 k))) t l hl) (16 * j + v) (omega arith)) in
+      let e = eqb-true (third ch l (16 * j + v)) (front ch l (16 * j + v))
+      (every-all 128 (λ k. eqb (third ch l k) (front ch l k))
+      (every-all r (λ l. every 128 (λ k. eqb (third ch l k) (front ch l k))) t l hl) (16 * j + v) (omega arith)) in
       let a : 16 * (8 * 3 + j) + v ≡ 128 * 3 + (16 * j + v) = omega arith in
-      let b : 16 * (8 * 0 + j) + v ≡ 128 * 0 + (16 * j + v) = omega arith in
+      let b : 16 * (8 * 0 + j) + v ≡ 16 * j + v = omega arith in
       ap (λ (n : ℕ). getD (drop (setLength * suc (suc l)) ch) n 0) a ∙ e ∙ ap (λ (n : ℕ). getD (drop (setLength * suc l) ch) n 0) (sym b)
 
   pub tested-word : WordRule r ch → wordRuleHolds r ch ≡ true
   unfolding wordRuleHolds
   tested-word h =
-      all-every r (λ l. every 128 (λ k. eqb (wordByte ch (suc l) 3 k) (wordByte ch l 0 k))) (λ l hl.
-      all-every 128 (λ k. eqb (wordByte ch (suc l) 3 k) (wordByte ch l 0 k)) (λ k hk.
+      all-every r (λ l. every 128 (λ k. eqb (third ch l k) (front ch l k))) (λ l hl.
+      all-every 128 (λ k. eqb (third ch l k) (front ch l k)) (λ k hk.
       let a : 16 * (8 * 3 + k / 16) + k % 16 ≡ 128 * 3 + k = omega arith in
-      let b : 16 * (8 * 0 + k / 16) + k % 16 ≡ 128 * 0 + k = omega arith in
-      eq-eqb (wordByte ch (suc l) 3 k) (wordByte ch l 0 k)
+      let b : 16 * (8 * 0 + k / 16) + k % 16 ≡ k = omega arith in
+      eq-eqb (third ch l k) (front ch l k)
       (ap (λ (n : ℕ). getD (drop (setLength * suc (suc l)) ch) n 0) (sym a)
       ∙ h l (k / 16) (k % 16) hl (omega arith) (omega arith)
       ∙ ap (λ (n : ℕ). getD (drop (setLength * suc l) ch) n 0) b)))

@@ -16,6 +16,7 @@ pub mod RoundsLaw
 pub mod FoldLaw
 pub mod ChainTests
 pub mod ChainRefusals
+pub mod CheckLaws
 pub mod BookLaw
 pub mod BookMeaning
 pub mod AnswerLaws

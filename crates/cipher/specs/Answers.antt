@@ -1,4 +1,5 @@
--- What the operations on a key and a block answer: the number of a refusal and zeros, or 0 and what was asked for.
+-- What the operations on a key and a block answer: the number of a refusal and zeros, or 0 and what was asked for. And what
+-- the checks of sets and chains answer: the number of a refusal, or 0.
 -- Assumes nothing.
 use mathlib.Core.Bool.{Bool, cond, not, _||_}
 use mathlib.Core.List.{List, [], _∷_, _++_}
@@ -11,6 +12,7 @@ use Rattle.cipher.specs.KeySize.{rounds, sizeOfKey}
 use Rattle.cipher.specs.Refusal.{outcomeOf}
 use Rattle.cipher.specs.Schedule.{schedule, blank}
 use Rattle.cipher.specs.Lea.{firstRounds, encipher, decipher}
+use Rattle.cipher.specs.Chain.{setTests, chainTests}
 use Rattle.cipher.specs.declared.size.KeySize.{KeySize}
 use Rattle.cipher.specs.declared.size.KeySize.the-variants.{Bytes16, Bytes24, Bytes32}
 use Rattle.cipher.specs.declared.size.SizeFound.{SizeFound}
@@ -26,15 +28,21 @@ abbrev pub rowTold : RowAnswer → ℕ × List ℕ
 rowTold a = (outcomeOf (a .outcome), a .row)
 
 -- refusal 1: a key of no known size. Refusal 7: a block that is not of 16 bytes
+abbrev pub keyLengthTests : ℕ → List (Bool × ℕ)
+keyLengthTests n = (not (eqb n 16 || eqb n 24 || eqb n 32), 1) ∷ []
+
 abbrev pub keyTests : List ℕ → List (Bool × ℕ)
-keyTests key = (not (eqb (length key) 16 || eqb (length key) 24 || eqb (length key) 32), 1) ∷ []
+keyTests key = keyLengthTests (length key)
 
 abbrev pub blockTests : List ℕ → List (Bool × ℕ)
 blockTests b = (not (eqb (length b) 16), 7) ∷ []
 
 -- the size of a key that is not refused
-unfoldable pub keySize : List ℕ → KeySize
-keySize key = cond (eqb (length key) 16) Bytes16 (cond (eqb (length key) 24) Bytes24 Bytes32)
+unfoldable pub keyLengthSize : ℕ → KeySize
+keyLengthSize n = cond (eqb n 16) Bytes16 (cond (eqb n 24) Bytes24 Bytes32)
+
+abbrev pub keySize : List ℕ → KeySize
+keySize key = keyLengthSize (length key)
 
 -- what `f` makes of a block, where key and block are not refused
 unfoldable pub onBlock : List ℕ → List ℕ → (KeySize → List ℕ) → ℕ × List ℕ
@@ -53,3 +61,10 @@ roundsAnswer key n b = onBlock key b (λ z. firstRounds (schedule z key) (cond (
 -- the round keys of round l, counted round
 abbrev pub rowAnswer : List ℕ → ℕ → ℕ × List ℕ
 rowAnswer key l = first (keyTests key) (λ n. (n, blank)) (0, getD (schedule (keySize key) key) (l % rounds (keySize key)) [])
+
+-- what the checks of a lone set, and of a chain for a key of n bytes, answer (document 01, "Refusals from the input")
+abbrev pub setAnswer : List ℕ → ℕ
+setAnswer s = first (setTests s) (λ q. q) 0
+
+abbrev pub chainAnswer : ℕ → List ℕ → ℕ
+chainAnswer n ch = first (keyLengthTests n ++ chainTests (keyLengthSize n) ch) (λ q. q) 0

@@ -100,19 +100,23 @@ arePermutations n s = every n (λ k. isOneToOne 16 16 (codingAt s k))
 unfoldable pub codingRuleHolds : ℕ → List ℕ → Bool
 codingRuleHolds r ch = arePermutations (32 * (r + 2)) ch && every r (λ l. arePermutations 24 (roundBytes r ch l))
 
--- byte k of word w of set l: a word has eight codings
-abbrev pub wordByte : List ℕ → ℕ → ℕ → ℕ → ℕ
-wordByte ch l w k = getD (drop (setLength * suc l) ch) (128 * w + k) 0
+-- word 3 of the set in `after` is coded as word 0 of the one in `before`: a word has eight codings
+abbrev pub wordKept : List ℕ → List ℕ → Bool
+wordKept before after = every 128 (λ k. eqb (getD after (128 * 3 + k) 0) (getD before k 0))
 
 unfoldable pub wordRuleHolds : ℕ → List ℕ → Bool
-wordRuleHolds r ch = every r (λ l. every 128 (λ k. eqb (wordByte ch (suc l) 3 k) (wordByte ch l 0 k)))
+wordRuleHolds r ch = every r (λ l. wordKept (drop (setLength * suc l) ch) (drop (setLength * suc (suc l)) ch))
 
 -- what the mask at place k must be below
 abbrev pub maskLimit : ℕ → ℕ
 maskLimit k = cond (eqb (k % 8) 0) 1 2
 
+-- the masks of a round, whose bytes s begins with
+abbrev pub masksHold : List ℕ → Bool
+masksHold s = every 24 (λ k. ltb (getD s (384 + k) 0) (maskLimit k))
+
 unfoldable pub maskRuleHolds : ℕ → List ℕ → Bool
-maskRuleHolds r ch = every r (λ l. every 24 (λ k. ltb (maskAt r ch l k) (maskLimit k)))
+maskRuleHolds r ch = every r (λ l. masksHold (roundBytes r ch l))
 
 -- ---- the refusals 2 and 3 of a set that comes alone, and 2 to 5 of a chain for a key of size z
 

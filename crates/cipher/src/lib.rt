@@ -9,3 +9,4 @@ pub mod round; // round.rt: a round of LEA, and the same undone
 pub mod rows; // rows.rt: blocks under the rows of a schedule
 pub mod lea; // lea.rt: the operations on a key and a block
 pub mod cmac; // cmac.rt: doubling, the subkeys of CMAC and its chaining
+pub mod chain; // chain.rt: the checks of sets and chains

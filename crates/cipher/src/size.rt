@@ -20,8 +20,16 @@ impl KeySize {
     pub const CODING: usize = 16;
     // A set (01's term): 32 codings.
     pub const SET: usize = 512;
+
+    pub const SET_CODINGS: usize = 32;
+    // Of a set, the codings of one word, for the eight half bytes that a word has.
+    pub const WORD: usize = 128;
+
+    pub const HALVES: usize = 8;
     // What a chain (01's term) holds for each round beside its set: 24 middle codings, 24 masks.
     pub const ROUND_CODINGS: usize = 408;
+
+    pub const MIDDLES: usize = 24;
     // The start of a book (01's term), and one of its three groups of fold tables.
     pub const START: usize = 16;
 

@@ -1,0 +1,141 @@
+-- Laws for the checks of sets and chains: what a turn of a loop, or a rule that was found broken or kept, says of the tests.
+-- Assumes nothing.
+use mathlib.Core.Path.{_≡_, refl, sym, ap, _∙_}
+use mathlib.Core.Bool.{Bool, true, false, not, _&&_}
+use mathlib.Core.List.{List}
+use Prim.Native.Nat.{ℕ, suc, _+_, _*_, _-_, _≤_, _<_}
+use native.Mathlib.Decide.{ℕ-discrete}
+use native.Mathlib.Omega.{arith}
+use borrow.Author.Tests.{lt-ltb, le-ltb, eq-eqb, ne-eqb}
+use lib.Dec.{ltb, eqb}
+use lib.ListN.{length, getD, set, take, drop, replicate}
+use lib.Seq.{getD-set-same, getD-set-other}
+use Rattle.lists.specs.Every.{every}
+use Rattle.lists.specs.Refusals.{first}
+use Rattle.lists.proofs.EveryLaws.{true-and, every-more, every-not}
+use Rattle.lists.proofs.TabulationLaws.{getD-replicate}
+use Rattle.lists.proofs.PartLaws.{part-end}
+use Rattle.cipher.specs.KeySize.{rounds, chainLength}
+use Rattle.cipher.specs.Chain.{setLength, isOneToOne, arePermutations, codingRuleHolds, wordKept, wordRuleHolds, maskRuleHolds, setTests, chainTests}
+use Rattle.cipher.specs.declared.size.KeySize.{KeySize}
+
+-- ---- a loop that tests one number after another
+
+pub every-next : (n : ℕ) (p : ℕ → Bool) → every n p ≡ true → p n ≡ true → every (n + 1) p ≡ true
+every-next n p h e = every-more n p ∙ true-and (every n p) (p n) h e
+
+and-false : (a b : Bool) → b ≡ false → a && b ≡ false
+and-false true b e = e
+and-false false b e = refl
+
+and-right : (a b : Bool) → b ≡ true → a ≡ a && b
+and-right true b e = sym e
+and-right false b e = refl
+
+-- ---- one coding, by an array of the images seen
+
+-- `seen` has a zero exactly where f has no value among its first i
+abbrev pub Marked : (ℕ → ℕ) → ℕ → List ℕ → Type 0
+Marked f i seen = (x : ℕ) → x < 16 → eqb (getD seen x 0) 0 ≡ every i (λ k. not (eqb (f k) x))
+
+module _ (f : ℕ → ℕ) where
+  pub marked-none : Marked f 0 (replicate 16 0)
+  unfolding every
+  marked-none x h = rw (getD-replicate 16 0 x)
+
+  pub one-none : isOneToOne 0 16 f ≡ true
+  unfolding isOneToOne every
+  one-none = refl
+
+  module _ (i x : ℕ) (e : f i ≡ x) where
+    -- an image that is too large
+    pub one-large : (n : ℕ) → i < n → 16 ≤ x → isOneToOne n 16 f ≡ false
+    unfolding isOneToOne
+    one-large n h l =
+        every-not n (λ i. ltb (f i) 16 && every i (λ k. not (eqb (f k) (f i)))) i h
+        (rw (le-ltb (f i) 16 (rw e l)))
+
+    module _ (seen : List ℕ) (m : Marked f i seen) (l : x < 16) where
+      fresh : (b : Bool) → eqb (getD seen x 0) 0 ≡ b → every i (λ k. not (eqb (f k) (f i))) ≡ b
+      fresh b q = ap (λ (y : ℕ). every i (λ k. not (eqb (f k) y))) e ∙ sym (m x l) ∙ q
+
+      -- an image that was seen
+      pub one-twice : (n : ℕ) → i < n → (getD seen x 0 ≡ 0 → ⊥) → isOneToOne n 16 f ≡ false
+      unfolding isOneToOne
+      one-twice n h q =
+          every-not n (λ i. ltb (f i) 16 && every i (λ k. not (eqb (f k) (f i)))) i h
+          (and-false (ltb (f i) 16) (every i (λ k. not (eqb (f k) (f i)))) (fresh false (ne-eqb (getD seen x 0) 0 q)))
+
+      -- a new one, which is then marked
+      pub one-more : getD seen x 0 ≡ 0 → isOneToOne i 16 f ≡ true → isOneToOne (i + 1) 16 f ≡ true
+      unfolding isOneToOne
+      one-more q h =
+          every-next i (λ i. ltb (f i) 16 && every i (λ k. not (eqb (f k) (f i)))) h
+          (true-and (ltb (f i) 16) (every i (λ k. not (eqb (f k) (f i)))) (lt-ltb (f i) 16 (rw e l)) (fresh true (eq-eqb (getD seen x 0) 0 q)))
+
+      pub marked-more : length seen ≡ 16 → Marked f (i + 1) (set seen x 1)
+      marked-more s y h = go (ℕ-discrete y x)
+        where
+          go : Dec (y ≡ x) → eqb (getD (set seen x 1) y 0) 0 ≡ every (i + 1) (λ k. not (eqb (f k) y))
+          go (yes d) =
+              ap (λ (z : ℕ). eqb (getD (set seen x 1) z 0) 0) d
+              ∙ ap (λ (z : ℕ). eqb z 0) (getD-set-same seen x 1 0 (rw s l))
+              ∙ sym (every-not (i + 1) (λ k. not (eqb (f k) y)) i (omega arith) (ap not (eq-eqb (f i) y (e ∙ sym d))))
+          go (no d) =
+              ap (λ (z : ℕ). eqb z 0) (getD-set-other seen x y 1 0 d)
+              ∙ m y h
+              ∙ and-right (every i (λ k. not (eqb (f k) y))) (not (eqb (f i) y)) (ap not (ne-eqb (f i) y (λ z. d (sym z ∙ e))))
+              ∙ sym (every-more i (λ k. not (eqb (f k) y)))
+
+-- ---- the word 3 rule, between parts of a chain as the code lends them
+
+pub word-turn : (ch : List ℕ) (l : ℕ) (b : Bool)
+    → wordKept (take (length ch - setLength * (l + 1)) (drop (setLength * (l + 1)) ch)) (take (length ch - setLength * (l + 2)) (drop (setLength * (l + 2)) ch)) ≡ b
+    → wordKept (drop (setLength * suc l) ch) (drop (setLength * suc (suc l)) ch) ≡ b
+word-turn ch l b h =
+    let p : l + 1 ≡ suc l = omega arith in
+    let q : l + 2 ≡ suc (suc l) = omega arith in
+    (λ i. wordKept (drop (setLength * sym p i) ch) (drop (setLength * sym q i) ch))
+    ∙ (λ i. wordKept (sym (part-end ch (setLength * (l + 1))) i) (sym (part-end ch (setLength * (l + 2))) i))
+    ∙ h
+
+-- ---- the answers for a lone set
+
+module _ (s : List ℕ) where
+  pub set-length-wrong : (length s ≡ setLength → ⊥) → first (setTests s) (λ q. q) 0 ≡ 2
+  unfolding setTests first
+  set-length-wrong h = rw (ne-eqb (length s) setLength h)
+
+  pub set-coding-wrong : length s ≡ setLength → arePermutations 32 s ≡ false → first (setTests s) (λ q. q) 0 ≡ 3
+  unfolding setTests first
+  set-coding-wrong h p = rw (eq-eqb (length s) setLength h, p)
+
+  pub set-right : length s ≡ setLength → arePermutations 32 s ≡ true → first (setTests s) (λ q. q) 0 ≡ 0
+  unfolding setTests first
+  set-right h p = rw (eq-eqb (length s) setLength h, p)
+
+-- ---- the answers for a chain of a key of size z
+
+module _ (z : KeySize) (ch : List ℕ) where
+  pub chain-length-wrong : (length ch ≡ chainLength z → ⊥) → first (chainTests z ch) (λ q. q) 0 ≡ 2
+  unfolding chainTests first
+  chain-length-wrong h = rw (ne-eqb (length ch) (chainLength z) h)
+
+  module _ (h : length ch ≡ chainLength z) where
+    pub chain-codings-wrong : codingRuleHolds (rounds z) ch ≡ false → first (chainTests z ch) (λ q. q) 0 ≡ 3
+    unfolding chainTests first
+    chain-codings-wrong p = rw (eq-eqb (length ch) (chainLength z) h, p)
+
+    module _ (c : codingRuleHolds (rounds z) ch ≡ true) where
+      pub chain-words-wrong : wordRuleHolds (rounds z) ch ≡ false → first (chainTests z ch) (λ q. q) 0 ≡ 4
+      unfolding chainTests first
+      chain-words-wrong p = rw (eq-eqb (length ch) (chainLength z) h, c, p)
+
+      module _ (w : wordRuleHolds (rounds z) ch ≡ true) where
+        pub chain-masks-wrong : maskRuleHolds (rounds z) ch ≡ false → first (chainTests z ch) (λ q. q) 0 ≡ 5
+        unfolding chainTests first
+        chain-masks-wrong p = rw (eq-eqb (length ch) (chainLength z) h, c, w, p)
+
+        pub chain-right : maskRuleHolds (rounds z) ch ≡ true → first (chainTests z ch) (λ q. q) 0 ≡ 0
+        unfolding chainTests first
+        chain-right p = rw (eq-eqb (length ch) (chainLength z) h, c, w, p)

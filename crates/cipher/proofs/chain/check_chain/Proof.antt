@@ -1,0 +1,21 @@
+use mathlib.Core.Path.{sym, _∙_}
+use borrow.Author.Needs.{needs}
+use Rattle.cipher.specs.Chain.{chainTests}
+use Rattle.cipher.proofs.AnswerLaws.{length-refused, length-taken}
+use Rattle.cipher.proofs.chain.check_chain.Statement.{statement}
+use Rattle.cipher.proofs.chain.check_chain.Tie as tie
+
+returns : tie.Need-returns
+returns c =
+    let a = c .before .before .before .before .args in
+    sym (length-refused (a .n) (λ z. chainTests z (a .chain .now)) (λ q. q) (λ z. 0) (sym (c .before .before .of-key-len .ensures) ∙ c .enum-told .given .1))
+
+returns-2 : tie.Need-returns-2
+returns-2 c =
+    let s = c .before .before in
+    let a = s .before .before .before .before .args in
+    c .check-sized .ensures
+    ∙ sym (length-taken (a .n) (λ z. chainTests z (a .chain .now)) (λ q. q) (λ z. 0) (s .size .given .0 .0) (sym (s .before .before .of-key-len .ensures) ∙ s .size .given .1))
+
+pub check-chain-spec : {M : Type 1} → statement M
+check-chain-spec = tie.close (tie.spec (λ c κs. search needs) (λ c. search needs) (λ c. search needs) returns (λ c κs. search needs) returns-2)

@@ -1,0 +1,187 @@
+// Checks of a lone set and of a chain (01, "Chain of codings"). Each rule is tested by a function of
+// its own; the checks ask for the rules in the order of the refusals.
+ghost use mathlib.Core.Path.{_≡_};
+ghost use Prim.Native.Nat.{_+_, _*_, _≤_};
+ghost use lib.ListN.{length};
+ghost use Rattle.lists.specs.Refusals.{first};
+ghost use Rattle.lists.specs.Every.{every};
+ghost use Rattle.cipher.specs.Refusal.{outcomeOf};
+ghost use Rattle.cipher.specs.Coding.{codingAt};
+ghost use Rattle.cipher.specs.Chain as C;
+ghost use Rattle.cipher.specs.Answers.{setAnswer, chainAnswer};
+use crate::refusal::Outcome;
+use crate::refusal::Refusal;
+use crate::size::KeySize;
+use crate::size::SizeFound;
+
+fn wide(x: u8) -> usize
+    ensures { λ r. ⌜ r ≡ x ⌝ }
+{
+    x as usize
+}
+
+// Whether coding k of those in s is a permutation: each image is below 16, and none was seen before.
+fn is_permutation(s: &[u8], k: usize) -> bool
+    requires { ⌜ 16 * k + 16 ≤ length (now s) ⌝ }
+    ensures { λ r. ⌜ r ≡ C.isOneToOne 16 16 (codingAt (now (s .entry)) k) ⌝ }
+{
+    let at = KeySize::CODING * k;
+    let mut seen = [0u8; KeySize::CODING];
+    for v in 0..KeySize::CODING {
+        let image = wide(s[at + v]);
+        if KeySize::CODING <= image {
+            return false;
+        }
+        if seen[image] != 0 {
+            return false;
+        }
+        seen[image] = 1;
+    }
+    true
+}
+
+// Whether the first n codings in s are permutations.
+fn are_permutations(s: &[u8], n: usize) -> bool
+    requires { ⌜ 16 * n ≤ length (now s) ⌝ }
+    ensures { λ r. ⌜ r ≡ C.arePermutations n (now (s .entry)) ⌝ }
+{
+    for k in 0..n {
+        if !is_permutation(s, k) {
+            return false;
+        }
+    }
+    true
+}
+
+// Whether the middle codings of every round of a chain of r rounds are permutations.
+fn middles_permute(chain: &[u8], r: usize) -> bool
+    requires { ⌜ (r ≤ 32) × (1024 + 920 * r ≤ length (now chain)) ⌝ }
+    ensures { λ b. ⌜ b ≡ every r (λ l. C.arePermutations 24 (C.roundBytes r (now (chain .entry)) l)) ⌝ }
+{
+    let sets = KeySize::SET * (r + 2);
+    for l in 0..r {
+        let at = sets + KeySize::ROUND_CODINGS * l;
+        if !are_permutations(&chain[at..], KeySize::MIDDLES) {
+            return false;
+        }
+    }
+    true
+}
+
+// Whether all codings of a chain of r rounds are permutations.
+fn codings_permute(chain: &[u8], r: usize) -> bool
+    requires { ⌜ (r ≤ 32) × (1024 + 920 * r ≤ length (now chain)) ⌝ }
+    ensures { λ b. ⌜ b ≡ C.codingRuleHolds r (now (chain .entry)) ⌝ }
+{
+    if !are_permutations(chain, KeySize::SET_CODINGS * (r + 2)) {
+        return false;
+    }
+    middles_permute(chain, r)
+}
+
+// Whether word 3 of the set in after is coded as word 0 of the set in before.
+fn word_kept(before: &[u8], after: &[u8]) -> bool
+    requires { ⌜ (512 ≤ length (now before)) × (512 ≤ length (now after)) ⌝ }
+    ensures { λ r. ⌜ r ≡ C.wordKept (now (before .entry)) (now (after .entry)) ⌝ }
+{
+    for k in 0..KeySize::WORD {
+        if after[KeySize::WORD * 3 + k] != before[k] {
+            return false;
+        }
+    }
+    true
+}
+
+// Whether the word 3 rule holds between all sets of a chain of r rounds.
+fn words_kept(chain: &[u8], r: usize) -> bool
+    requires { ⌜ (r ≤ 32) × (1024 + 920 * r ≤ length (now chain)) ⌝ }
+    ensures { λ b. ⌜ b ≡ C.wordRuleHolds r (now (chain .entry)) ⌝ }
+{
+    for l in 0..r {
+        let before = KeySize::SET * (l + 1);
+        let after = KeySize::SET * (l + 2);
+        if !word_kept(&chain[before..], &chain[after..]) {
+            return false;
+        }
+    }
+    true
+}
+
+// What the mask at place k must be below: where the carry goes into half byte 0, it must be 0.
+fn mask_limit(k: usize) -> u8
+    ensures { λ r. ⌜ r ≡ C.maskLimit k ⌝ }
+{
+    if k % KeySize::HALVES == 0 { 1 } else { 2 }
+}
+
+// Whether the masks of a round hold, whose bytes s begins with.
+fn masks_hold(s: &[u8]) -> bool
+    requires { ⌜ 408 ≤ length (now s) ⌝ }
+    ensures { λ r. ⌜ r ≡ C.masksHold (now (s .entry)) ⌝ }
+{
+    for k in 0..KeySize::MIDDLES {
+        if mask_limit(k) <= s[KeySize::CODING * KeySize::MIDDLES + k] {
+            return false;
+        }
+    }
+    true
+}
+
+// Whether the masks of every round of a chain of r rounds hold.
+fn all_masks_hold(chain: &[u8], r: usize) -> bool
+    requires { ⌜ (r ≤ 32) × (1024 + 920 * r ≤ length (now chain)) ⌝ }
+    ensures { λ b. ⌜ b ≡ C.maskRuleHolds r (now (chain .entry)) ⌝ }
+{
+    let sets = KeySize::SET * (r + 2);
+    for l in 0..r {
+        let at = sets + KeySize::ROUND_CODINGS * l;
+        if !masks_hold(&chain[at..]) {
+            return false;
+        }
+    }
+    true
+}
+
+// A lone set: its length (2), its codings (3).
+pub fn check_set(set: &[u8]) -> Outcome
+    ensures { λ r. ⌜ outcomeOf r ≡ setAnswer (now (set .entry)) ⌝ }
+{
+    if set.len() != KeySize::SET {
+        return Outcome::Refused(Refusal::ChainLength);
+    }
+    if !are_permutations(set, KeySize::SET_CODINGS) {
+        return Outcome::Refused(Refusal::NoPermutation);
+    }
+    Outcome::Done
+}
+
+// A chain for a key of a known size: its length (2), its codings (3), the word 3 rule (4), its
+// masks (5).
+pub fn check_sized(size: KeySize, chain: &[u8]) -> Outcome
+    ensures { λ r. ⌜ outcomeOf r ≡ first (C.chainTests size (now (chain .entry))) (λ n. n) 0 ⌝ }
+{
+    if chain.len() != size.chain_len() {
+        return Outcome::Refused(Refusal::ChainLength);
+    }
+    let r = size.rounds();
+    if !codings_permute(chain, r) {
+        return Outcome::Refused(Refusal::NoPermutation);
+    }
+    if !words_kept(chain, r) {
+        return Outcome::Refused(Refusal::WordRule);
+    }
+    if !all_masks_hold(chain, r) {
+        return Outcome::Refused(Refusal::MaskByte);
+    }
+    Outcome::Done
+}
+
+// A chain for a key of n bytes: the key's length (1), then as above.
+pub fn check_chain(n: usize, chain: &[u8]) -> Outcome
+    ensures { λ r. ⌜ outcomeOf r ≡ chainAnswer n (now (chain .entry)) ⌝ }
+{
+    let SizeFound::Found(size) = KeySize::of_key_len(n) else {
+        return Outcome::Refused(Refusal::KeyLength);
+    };
+    check_sized(size, chain)
+}
