@@ -63,8 +63,8 @@ abbrev pub rowAnswer : List ℕ → ℕ → ℕ × List ℕ
 rowAnswer key l = first (keyTests key) (λ n. (n, blank)) (0, getD (schedule (keySize key) key) (l % rounds (keySize key)) [])
 
 -- what the checks of a lone set, and of a chain for a key of n bytes, answer (document 01, "Refusals from the input")
-abbrev pub setAnswer : List ℕ → ℕ
-setAnswer s = first (setTests s) (λ q. q) 0
+abbrev pub setChecked : List ℕ → ℕ
+setChecked s = first (setTests s) (λ q. q) 0
 
-abbrev pub chainAnswer : ℕ → List ℕ → ℕ
-chainAnswer n ch = first (keyLengthTests n ++ chainTests (keyLengthSize n) ch) (λ q. q) 0
+abbrev pub chainChecked : ℕ → List ℕ → ℕ
+chainChecked n ch = first (keyLengthTests n ++ chainTests (keyLengthSize n) ch) (λ q. q) 0

@@ -44,6 +44,14 @@ codingAt s k v = getD s (16 * k + v) 0
 abbrev pub setOf : List ℕ → Set
 setOf s w j = codingAt s (8 * w + j)
 
+-- the 512 bytes of the set in s are half bytes, as those of permutations are
+abbrev pub LowSet : List ℕ → Type 0
+LowSet s = (i : ℕ) → i < 512 → getD s i 0 < 16
+
+-- byte k of a block, x, coded by the set in s: codings 2k and 2k + 1 serve its halves
+abbrev pub byteCoded : List ℕ → ℕ → ℕ → ℕ
+byteCoded s k x = getD s (32 * k + x % 16) 0 + 16 * getD s (32 * k + 16 + x / 16 % 16) 0
+
 -- half byte j of word w of a block, counted 8w + j: each byte holds two, the even one low
 unfoldable pub blockHalf : List ℕ → ℕ → ℕ → ℕ
 blockHalf b w j = halfByte (getD b (4 * w + j / 2) 0) (j % 2)

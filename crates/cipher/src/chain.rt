@@ -8,7 +8,7 @@ ghost use Rattle.lists.specs.Every.{every};
 ghost use Rattle.cipher.specs.Refusal.{outcomeOf};
 ghost use Rattle.cipher.specs.Coding.{codingAt};
 ghost use Rattle.cipher.specs.Chain as C;
-ghost use Rattle.cipher.specs.Answers.{setAnswer, chainAnswer};
+ghost use Rattle.cipher.specs.Answers.{setChecked, chainChecked};
 use crate::refusal::Outcome;
 use crate::refusal::Refusal;
 use crate::size::KeySize;
@@ -144,7 +144,7 @@ fn all_masks_hold(chain: &[u8], r: usize) -> bool
 
 // A lone set: its length (2), its codings (3).
 pub fn check_set(set: &[u8]) -> Outcome
-    ensures { λ r. ⌜ outcomeOf r ≡ setAnswer (now (set .entry)) ⌝ }
+    ensures { λ r. ⌜ outcomeOf r ≡ setChecked (now (set .entry)) ⌝ }
 {
     if set.len() != KeySize::SET {
         return Outcome::Refused(Refusal::ChainLength);
@@ -178,7 +178,7 @@ pub fn check_sized(size: KeySize, chain: &[u8]) -> Outcome
 
 // A chain for a key of n bytes: the key's length (1), then as above.
 pub fn check_chain(n: usize, chain: &[u8]) -> Outcome
-    ensures { λ r. ⌜ outcomeOf r ≡ chainAnswer n (now (chain .entry)) ⌝ }
+    ensures { λ r. ⌜ outcomeOf r ≡ chainChecked n (now (chain .entry)) ⌝ }
 {
     let SizeFound::Found(size) = KeySize::of_key_len(n) else {
         return Outcome::Refused(Refusal::KeyLength);

@@ -1,0 +1,29 @@
+// Blocks coded by a set that lies in a slice (01, "Chain of codings"). Decoding is coding by the
+// inverted set.
+ghost use mathlib.Core.Path.{_≡_};
+ghost use Prim.Native.Nat.{_≤_, _<_};
+ghost use lib.ListN.{length};
+ghost use Rattle.cipher.specs.Coding.{LowSet, setOf, byteCoded, coded};
+use crate::size::KeySize;
+
+// Byte k of a block, x, coded: codings 2k and 2k + 1 serve its halves.
+fn code_byte(set: &[u8], k: usize, x: u8) -> u8
+    requires { ⌜ (k < 16) × (512 ≤ length (now set)) × LowSet (now set) ⌝ }
+    ensures { λ r. ⌜ r ≡ byteCoded (now (set .entry)) k x ⌝ }
+{
+    let at = 2 * KeySize::CODING * k;
+    let v = x as usize;
+    set[at + v % 16] + 16 * set[at + KeySize::CODING + v / 16]
+}
+
+// A block coded by the set at the front of a slice.
+pub fn code_block(set: &[u8], b: [u8; 16]) -> [u8; 16]
+    requires { ⌜ (512 ≤ length (now set)) × LowSet (now set) ⌝ }
+    ensures { λ r. ⌜ r ≡ coded (setOf (now (set .entry))) b ⌝ }
+{
+    let mut c = [0u8; 16];
+    for k in 0..16 {
+        c[k] = code_byte(set, k, b[k]);
+    }
+    c
+}
