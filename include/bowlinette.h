@@ -1,9 +1,10 @@
 /*
- * Bowlinette: the cipher LEA for C programs. Link libexports.a.
+ * Bowlinette: the cipher LEA, and the codings for table books of it, for C programs. Link
+ * libexports.a.
  *
  * Every function returns 0, or the number of a refusal. Where several refusals apply, the lowest
  * number is returned. After a refusal nothing behind any pointer has changed; after a success only
- * what the function's last pointer refers to has.
+ * what the function's last pointer refers to has, and nothing if that is to const.
  *
  * All lengths count bytes. No pointer may be null, also where its length is 0, and what is written
  * must not overlap what is read. The functions keep nothing between calls and use no heap, so they
@@ -21,12 +22,23 @@ extern "C" {
 
 /* What is returned. */
 #define BOWLINETTE_DONE 0
-#define BOWLINETTE_REFUSED_KEY_LENGTH 1   /* the key is not of 16, 24 or 32 bytes */
-#define BOWLINETTE_REFUSED_BLOCK_LENGTH 7 /* the block is not of 16 bytes */
+#define BOWLINETTE_REFUSED_KEY_LENGTH 1     /* the key is not of 16, 24 or 32 bytes */
+#define BOWLINETTE_REFUSED_CHAIN_LENGTH 2   /* the chain is not as long as the key asks, or the set not 512 bytes */
+#define BOWLINETTE_REFUSED_NO_PERMUTATION 3 /* a coding is no permutation of 0 to 15 */
+#define BOWLINETTE_REFUSED_WORD_RULE 4      /* word 3 of a set is not coded as word 0 of the set before */
+#define BOWLINETTE_REFUSED_MASK 5           /* a mask is over 1, or not 0 for half byte 0 */
+#define BOWLINETTE_REFUSED_BLOCK_LENGTH 7   /* the block is not of 16 bytes */
 
 /* A block, in bytes, and the round keys of one round, in 32-bit words. */
 #define BOWLINETTE_BLOCK_LENGTH 16
 #define BOWLINETTE_ROW_WORDS 6
+
+/*
+ * A coding, in bytes: the images of 0 to 15, each once. A set has 32 codings; coding 8w + j serves
+ * half byte j of word w of a block, j = 0 lowest.
+ */
+#define BOWLINETTE_CODING_LENGTH 16
+#define BOWLINETTE_SET_LENGTH 512
 
 /* The three key sizes: the key in bytes, its rounds, its chain and its book in bytes. */
 #define BOWLINETTE_KEY_LENGTH_128 16
@@ -78,6 +90,20 @@ uint32_t bowlinette_first_rounds(const uint8_t *key, size_t key_length,
 uint32_t bowlinette_round_keys(const uint8_t *key, size_t key_length,
                                size_t round,
                                uint32_t *row);
+
+/*
+ * Checks a set that comes alone.
+ * Refuses 2 (length), then 3 (permutations).
+ */
+uint32_t bowlinette_check_set(const uint8_t *set, size_t set_length);
+
+/*
+ * Checks a chain for keys of a length. A chain holds the message set, the sets 0 to r, and for each
+ * of the r rounds 24 middle codings and then 24 masks, a byte each.
+ * Refuses 1 (key length), then 2 (chain length), 3 (permutations), 4 (the word 3 rule), 5 (masks).
+ */
+uint32_t bowlinette_check_chain(size_t key_length,
+                                const uint8_t *chain, size_t chain_length);
 
 #ifdef __cplusplus
 }

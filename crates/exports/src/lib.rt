@@ -2,7 +2,7 @@
 // function answers 0, or the number of a refusal, in which case nothing behind a pointer has changed.
 ghost use mathlib.Core.Path.{_≡_};
 ghost use Rattle.exports.specs.Chain.{chainAnswer};
-ghost use Rattle.cipher.specs.Answers.{blockTold, encipherAnswer, decipherAnswer, roundsAnswer, rowAnswer};
+ghost use Rattle.cipher.specs.Answers.{blockTold, encipherAnswer, decipherAnswer, roundsAnswer, rowAnswer, setChecked, chainChecked};
 ghost use Rattle.exports.specs.Into.{into};
 use cipher::lea::BlockAnswer;
 use cipher::refusal::Refusal;
@@ -64,6 +64,22 @@ pub extern "C" fn bowlinette_round_keys(key: &[u8], round: usize, row: &mut [u32
         *row = k;
     }
     number
+}
+
+// Whether a set that comes alone is one.
+#[no_mangle]
+pub extern "C" fn bowlinette_check_set(set: &[u8]) -> u32
+    ensures { λ r. ⌜ r ≡ setChecked (now (set .entry)) ⌝ }
+{
+    cipher::chain::check_set(set).number()
+}
+
+// Whether a chain is one for a key of n bytes.
+#[no_mangle]
+pub extern "C" fn bowlinette_check_chain(n: usize, chain: &[u8]) -> u32
+    ensures { λ r. ⌜ r ≡ chainChecked n (now (chain .entry)) ⌝ }
+{
+    cipher::chain::check_chain(n, chain).number()
 }
 
 // For the benchmark: the chaining value of CMAC after the whole blocks of a text, into out.

@@ -1,5 +1,5 @@
 //! The functions of include/bowlinette.h for Rust, over slices. Each returns 0, or the number of a
-//! refusal, in which case the last argument is as it was.
+//! refusal, in which case what it may write to is as it was.
 
 mod c {
     extern "C" {
@@ -37,6 +37,11 @@ mod c {
             text: *const u8,
             text_length: usize,
             out: *mut u8,
+        pub fn bowlinette_check_set(set: *const u8, set_length: usize) -> u32;
+        pub fn bowlinette_check_chain(
+            key_length: usize,
+            chain: *const u8,
+            chain_length: usize,
         ) -> u32;
     }
 }
@@ -106,4 +111,16 @@ pub fn bench_chain(key: &[u8], text: &[u8], out: &mut [u8; 16]) -> u32 {
             out.as_mut_ptr(),
         )
     }
+}
+
+/// Whether a set that comes alone is one.
+#[inline]
+pub fn check_set(set: &[u8]) -> u32 {
+    unsafe { c::bowlinette_check_set(set.as_ptr(), set.len()) }
+}
+
+/// Whether a chain is one for keys of so many bytes.
+#[inline]
+pub fn check_chain(key_length: usize, chain: &[u8]) -> u32 {
+    unsafe { c::bowlinette_check_chain(key_length, chain.as_ptr(), chain.len()) }
 }

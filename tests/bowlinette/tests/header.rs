@@ -36,6 +36,7 @@ fn due() -> Vec<String> {
     let row = lea::round_keys(&key, 3).unwrap();
     let words: String = row.iter().map(|w| format!(" {w:08x}")).collect();
     lines.push(format!("1{words}"));
+    lines.push("1 1 1".into());
     lines
 }
 

@@ -1,6 +1,8 @@
 //! Document 01 in Rust, written from its words alone: what the proved library is compared with, and
 //! the yardstick of the benchmarks.
 
+pub mod book;
+pub mod chain;
 pub mod lea;
 pub mod refusal;
 pub mod size;

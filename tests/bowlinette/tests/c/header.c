@@ -1,4 +1,4 @@
-/* Prints the header's constants, a line for each key size, then what the four functions give. */
+/* Prints the header's constants, a line for each key size, then what the functions give. */
 #include "bowlinette.h"
 #include <stdio.h>
 
@@ -13,6 +13,19 @@ static void show(uint32_t number, const uint8_t *bytes)
     for (i = 0; i < BOWLINETTE_BLOCK_LENGTH; i++)
         printf("%02x", bytes[i]);
     printf("\n");
+}
+
+/* A set of identity codings, alone and at the front of what is no chain. */
+static void checks(void)
+{
+    static uint8_t set[BOWLINETTE_CHAIN_LENGTH_128];
+    size_t i;
+
+    for (i = 0; i < BOWLINETTE_SET_LENGTH; i++)
+        set[i] = (uint8_t)(i % BOWLINETTE_CODING_LENGTH);
+    printf("%d", bowlinette_check_set(set, BOWLINETTE_SET_LENGTH) == BOWLINETTE_DONE);
+    printf(" %d", bowlinette_check_set(set, 1) == BOWLINETTE_REFUSED_CHAIN_LENGTH);
+    printf(" %d\n", bowlinette_check_chain(16, set, sizeof set) == BOWLINETTE_REFUSED_NO_PERMUTATION);
 }
 
 int main(void)
@@ -44,5 +57,6 @@ int main(void)
     for (i = 0; i < BOWLINETTE_ROW_WORDS; i++)
         printf(" %08lx", (unsigned long)row[i]);
     printf("\n");
+    checks();
     return 0;
 }

@@ -1,0 +1,259 @@
+//! The checks of lone sets and of chains, on both versions: valid ones of each size, and each
+//! refusal at first, middle and last places, alone and beside others.
+
+#[path = "shared/chains.rs"]
+mod chains;
+#[path = "shared/random.rs"]
+mod random;
+
+use random::Random;
+use reference::chain::{self, CODING, MIDDLES, ROUND, SET, WORD};
+use reference::Size;
+
+/// What both versions say of a chain; they must agree.
+fn told(key: usize, chain: &[u8]) -> u32 {
+    let proved = bowlinette::check_chain(key, chain);
+    let number = chain::check(key, chain).err().unwrap_or(0);
+    assert_eq!(proved, number, "key of {key}, chain of {}", chain.len());
+    proved
+}
+
+/// The same of a lone set.
+fn told_set(set: &[u8]) -> u32 {
+    let proved = bowlinette::check_set(set);
+    let number = chain::check_set(set).err().unwrap_or(0);
+    assert_eq!(proved, number, "set of {}", set.len());
+    proved
+}
+
+/// Runs a check on a valid chain of each size.
+fn on_chains(seed: u64, check: impl Fn(Size, Vec<u8>)) {
+    let mut random = Random(seed);
+    for size in Size::ALL {
+        check(size, chains::valid(size, &mut random));
+    }
+}
+
+/// The number for a chain of this size after a change.
+fn changed(size: Size, chain: &[u8], change: impl FnOnce(&mut [u8])) -> u32 {
+    let mut other = chain.to_vec();
+    change(&mut other);
+    told(size.key_bytes(), &other)
+}
+
+/// The first, a middle and the last of so many.
+fn places(count: usize) -> [usize; 3] {
+    [0, count / 2, count - 1]
+}
+
+/// Where set l, the middle codings and the masks of round l begin.
+fn set_at(l: usize) -> usize {
+    SET * (l + 1)
+}
+
+fn middles_at(size: Size, l: usize) -> usize {
+    SET * (size.rounds() + 2) + ROUND * l
+}
+
+fn masks_at(size: Size, l: usize) -> usize {
+    middles_at(size, l) + CODING * MIDDLES
+}
+
+#[test]
+fn valid_chains() {
+    for seed in 0..20 {
+        on_chains(seed, |size, chain| {
+            for other in Size::ALL {
+                let number = if other == size { 0 } else { 2 };
+                assert_eq!(told(other.key_bytes(), &chain), number);
+            }
+        });
+    }
+}
+
+/// Identity codings, the masks all 0 or, where they may be, all 1.
+#[test]
+fn identity_chains() {
+    for size in Size::ALL {
+        let mut chain = chain::random(size, |bound| bound - 1);
+        assert_eq!(told(size.key_bytes(), &chain), 0);
+        for l in 0..size.rounds() {
+            chain[masks_at(size, l)..][..MIDDLES].fill(0);
+        }
+        assert_eq!(told(size.key_bytes(), &chain), 0);
+    }
+}
+
+#[test]
+fn key_lengths() {
+    on_chains(30, |size, chain| {
+        for key in (0..=40).chain([272, 280, 288, 65_552, usize::MAX]) {
+            let known = Size::of_key(key);
+            let number = match known {
+                Some(other) if other == size => 0,
+                Some(_) => 2,
+                None => 1,
+            };
+            assert_eq!(told(key, &chain), number);
+            assert_eq!(told(key, &[]), if known.is_some() { 2 } else { 1 });
+        }
+    });
+}
+
+#[test]
+fn chain_lengths() {
+    on_chains(31, |size, mut chain| {
+        let (key, right) = (size.key_bytes(), chain.len());
+        for length in [0, 1, SET, right / 2, right - CODING, right - 1] {
+            assert_eq!(told(key, &chain[..length]), 2);
+        }
+        for longer in [1, 2, CODING, 65_536] {
+            chain.resize(right + longer, 0);
+            assert_eq!(told(key, &chain), 2);
+        }
+    });
+}
+
+/// Ways to spoil a coding at one of its places: an image too large, or one that is there twice.
+fn spoilt(coding: &mut [u8], place: usize, way: usize) {
+    coding[place] = match way {
+        0 => 16,
+        1 => 255,
+        _ => coding[(place + way) % CODING],
+    };
+}
+
+#[test]
+fn codings() {
+    on_chains(32, |size, chain| {
+        let sets = places(size.rounds() + 2)
+            .into_iter()
+            .flat_map(|s| places(32).map(|k| SET * s + CODING * k));
+        let rounds = places(size.rounds()).into_iter();
+        let middles =
+            rounds.flat_map(|l| places(MIDDLES).map(|k| middles_at(size, l) + CODING * k));
+        for at in sets.chain(middles) {
+            for place in places(CODING) {
+                for way in [0, 1, 2, 9, 16] {
+                    let spoil = |c: &mut [u8]| spoilt(&mut c[at..][..CODING], place, way);
+                    assert_eq!(changed(size, &chain, spoil), if way == 16 { 0 } else { 3 });
+                }
+            }
+        }
+    });
+}
+
+/// Two images of a coding exchanged: it stays a permutation, and only the word 3 rule can break.
+#[test]
+fn the_word_rule() {
+    on_chains(33, |size, chain| {
+        let swap = |at: usize| changed(size, &chain, |c| c.swap(at, at + 1));
+        let last = size.rounds();
+        for place in [(0, 0), (0, 14), (4, 7), (7, 0), (7, 14)].map(|(j, v)| CODING * j + v) {
+            for l in 0..=last {
+                let word = |w: usize| swap(set_at(l) + WORD * w + place);
+                assert_eq!(word(0), if l < last { 4 } else { 0 }, "word 0 of set {l}");
+                assert_eq!([word(1), word(2)], [0, 0], "words 1 and 2 of set {l}");
+                assert_eq!(word(3), if l > 0 { 4 } else { 0 }, "word 3 of set {l}");
+            }
+            assert_eq!(swap(place), 0, "the message set");
+        }
+        for l in places(last) {
+            assert_eq!(swap(middles_at(size, l)), 0, "middle codings of round {l}");
+        }
+    });
+}
+
+#[test]
+fn masks() {
+    on_chains(34, |size, chain| {
+        for l in places(size.rounds()) {
+            for place in 0..MIDDLES {
+                for mask in [0, 1, 2, 16, 255] {
+                    let good = mask == 0 || mask == 1 && place % 8 != 0;
+                    let number = changed(size, &chain, |c| c[masks_at(size, l) + place] = mask);
+                    assert_eq!(
+                        number,
+                        if good { 0 } else { 5 },
+                        "mask {mask} at {l}, {place}"
+                    );
+                }
+            }
+        }
+    });
+}
+
+/// Every choice among the mistakes 1 to 5, each at a first and at a last place.
+#[test]
+fn the_lowest_number_first() {
+    on_chains(35, |size, chain| {
+        let last = size.rounds() - 1;
+        for (choice, late) in (0..32).flat_map(|n| [(n, false), (n, true)]) {
+            let made = |number: u32| choice >> (number - 1) & 1 == 1;
+            let (mut other, mut key) = (chain.clone(), size.key_bytes());
+            let l = if late { last } else { 0 };
+            if made(5) {
+                other[masks_at(size, l) + if late { MIDDLES - 1 } else { 0 }] = 2;
+            }
+            if made(4) {
+                let at = set_at(l + 1) + 3 * WORD;
+                other.swap(at, at + 1);
+            }
+            if made(3) {
+                let at = if late { middles_at(size, l) } else { 0 };
+                other[at] = 16;
+            }
+            if made(2) {
+                other.extend([0; 7]);
+            }
+            if made(1) {
+                key += 1;
+            }
+            let due = (1..=5).find(|&number| made(number)).unwrap_or(0);
+            assert_eq!(
+                told(key, &other),
+                due,
+                "mistakes {choice:05b}, late: {late}"
+            );
+        }
+    });
+}
+
+/// Every byte of a chain, changed by chance to any other: both versions say the same.
+#[test]
+fn every_byte() {
+    let mut random = Random(36);
+    let size = Size::Lea128;
+    let chain = chains::valid(size, &mut random);
+    let mut numbers = [0; 6];
+    for at in 0..chain.len() {
+        let step = random.bytes(1)[0].max(1);
+        let number = changed(size, &chain, |c| c[at] = c[at].wrapping_add(step));
+        numbers[number as usize] += 1;
+    }
+    assert_eq!(numbers[1] + numbers[2] + numbers[4], 0);
+    assert!(numbers[3] >= SET * (size.rounds() + 2) && numbers[5] > 0);
+}
+
+#[test]
+fn lone_sets() {
+    on_chains(37, |size, chain| {
+        for l in places(size.rounds() + 2) {
+            let set = &chain[SET * l..][..SET];
+            assert_eq!(told_set(set), 0);
+            for k in 0..SET / CODING {
+                for way in [0, 1, 2, 9] {
+                    let mut other = set.to_vec();
+                    spoilt(&mut other[CODING * k..][..CODING], (k + l) % CODING, way);
+                    assert_eq!(told_set(&other), 3, "coding {k}");
+                    assert_eq!(told_set(&other[1..]), 2);
+                    other.push(0);
+                    assert_eq!(told_set(&other), 2);
+                }
+            }
+        }
+        for length in [0, 1, CODING, SET - 1, SET + 1, 2 * SET, chain.len()] {
+            assert_eq!(told_set(&chain[..length]), 2);
+        }
+    });
+}

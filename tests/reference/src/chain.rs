@@ -1,0 +1,167 @@
+//! Codings, sets and chains (01, "Chain of codings"): where everything stands, what is refused, and
+//! how a block is coded.
+
+use crate::lea::Block;
+use crate::refusal;
+use crate::Size;
+
+/// A coding in bytes: byte v is the image of v.
+pub const CODING: usize = 16;
+/// A set of 32 codings, and the eight of one word of it.
+pub const SET: usize = 32 * CODING;
+pub const WORD: usize = 8 * CODING;
+/// The middle codings of one round; its masks, a byte each, are as many.
+pub const MIDDLES: usize = 24;
+/// What a chain holds for each round behind its sets.
+pub const ROUND: usize = MIDDLES * CODING + MIDDLES;
+
+/// The bytes of a chain, of the length that its rounds need, by name.
+#[derive(Clone, Copy)]
+pub struct Chain<'a> {
+    bytes: &'a [u8],
+    rounds: usize,
+}
+
+impl<'a> Chain<'a> {
+    /// Refuses a wrong length.
+    pub fn new(size: Size, bytes: &'a [u8]) -> Result<Chain<'a>, u32> {
+        let rounds = size.rounds();
+        if bytes.len() == size.chain_bytes() {
+            Ok(Chain { bytes, rounds })
+        } else {
+            Err(refusal::CHAIN_LENGTH)
+        }
+    }
+
+    pub fn rounds(self) -> usize {
+        self.rounds
+    }
+
+    /// The message set and the sets 0 to r, one after another.
+    pub fn sets(self) -> &'a [u8] {
+        &self.bytes[..(self.rounds + 2) * SET]
+    }
+
+    /// The message set U.
+    pub fn message(self) -> &'a [u8] {
+        &self.bytes[..SET]
+    }
+
+    /// Set l, from 0 to r.
+    pub fn set(self, l: usize) -> &'a [u8] {
+        &self.bytes[(l + 1) * SET..][..SET]
+    }
+
+    /// The middle codings of round l.
+    pub fn middles(self, l: usize) -> &'a [u8] {
+        &self.bytes[(self.rounds + 2) * SET + l * ROUND..][..MIDDLES * CODING]
+    }
+
+    /// The masks of round l.
+    pub fn masks(self, l: usize) -> &'a [u8] {
+        &self.bytes[(self.rounds + 2) * SET + l * ROUND + MIDDLES * CODING..][..MIDDLES]
+    }
+
+    /// Refuses a chain that is not valid, the lowest number first.
+    fn checked(self) -> Result<Chain<'a>, u32> {
+        let rounds = 0..self.rounds;
+        if !permute(self.sets()) || !rounds.clone().all(|l| permute(self.middles(l))) {
+            return Err(refusal::NO_PERMUTATION);
+        }
+        let kept = |l| self.set(l + 1)[3 * WORD..] == self.set(l)[..WORD];
+        if !rounds.clone().all(kept) {
+            return Err(refusal::WORD_RULE);
+        }
+        let good = |(k, &mask): (usize, &u8)| mask <= u8::from(k % 8 != 0);
+        if !rounds
+            .clone()
+            .all(|l| self.masks(l).iter().enumerate().all(good))
+        {
+            return Err(refusal::MASK);
+        }
+        Ok(self)
+    }
+}
+
+/// Whether each coding of these bytes is a permutation of 0 to 15.
+fn permute(codings: &[u8]) -> bool {
+    codings.chunks_exact(CODING).all(|coding| {
+        let seen = coding.iter().fold(0, |seen, &v| match v {
+            0..=15 => seen | 1u16 << v,
+            _ => seen,
+        });
+        seen == u16::MAX
+    })
+}
+
+/// A valid chain for a key of so many bytes, or the refusal.
+pub fn check(key_bytes: usize, chain: &[u8]) -> Result<Chain<'_>, u32> {
+    let size = Size::of_key(key_bytes).ok_or(refusal::KEY_LENGTH)?;
+    Chain::new(size, chain)?.checked()
+}
+
+/// Whether a set that comes alone is valid, or the refusal.
+pub fn check_set(set: &[u8]) -> Result<(), u32> {
+    if set.len() != SET {
+        return Err(refusal::CHAIN_LENGTH);
+    }
+    match permute(set) {
+        true => Ok(()),
+        false => Err(refusal::NO_PERMUTATION),
+    }
+}
+
+/// Codings inverted, each in its place.
+pub fn invert(codings: &[u8], out: &mut [u8]) {
+    for (coding, inverse) in codings
+        .chunks_exact(CODING)
+        .zip(out.chunks_exact_mut(CODING))
+    {
+        for (v, &image) in coding.iter().enumerate() {
+            inverse[usize::from(image) % CODING] = v as u8;
+        }
+    }
+}
+
+/// A block coded by a set: half byte p, in byte p / 2 and low if p is even, by coding p.
+pub fn code(set: &[u8], block: &Block) -> Block {
+    std::array::from_fn(|k| {
+        let pair = &set[2 * CODING * k..][..2 * CODING];
+        let (low, high) = (block[k] % 16, block[k] / 16);
+        pair[usize::from(low)] + 16 * pair[CODING + usize::from(high)]
+    })
+}
+
+/// A valid chain by chance; `below` gives a number below its argument.
+pub fn random(size: Size, mut below: impl FnMut(usize) -> usize) -> Vec<u8> {
+    let rounds = size.rounds();
+    let mut chain = Vec::with_capacity(size.chain_bytes());
+    for set in 0..rounds + 2 {
+        for coding in 0..32 {
+            let shuffled = permutation(&mut below);
+            let before = chain.len().wrapping_sub(SET + 3 * WORD);
+            if set >= 2 && coding >= 24 {
+                chain.extend_from_within(before..before + CODING);
+            } else {
+                chain.extend(shuffled);
+            }
+        }
+    }
+    for _ in 0..rounds {
+        for _ in 0..MIDDLES {
+            chain.extend(permutation(&mut below));
+        }
+        for place in 0..MIDDLES {
+            chain.push(if place % 8 == 0 { 0 } else { below(2) as u8 });
+        }
+    }
+    chain
+}
+
+fn permutation(below: &mut impl FnMut(usize) -> usize) -> [u8; CODING] {
+    let mut coding: [u8; CODING] = std::array::from_fn(|v| v as u8);
+    for last in (1..CODING).rev() {
+        coding.swap(last, below(last + 1));
+    }
+    coding
+}
