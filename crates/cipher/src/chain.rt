@@ -97,9 +97,9 @@ fn words_kept(chain: &[u8], r: usize) -> bool
     requires { ⌜ (r ≤ 32) × (1024 + 920 * r ≤ length (now chain)) ⌝ }
     ensures { λ b. ⌜ b ≡ C.wordRuleHolds r (now (chain .entry)) ⌝ }
 {
-    for l in 0..r {
-        let before = KeySize::SET * (l + 1);
-        let after = KeySize::SET * (l + 2);
+    for set in 0..r {
+        let before = KeySize::SET * (set + 1);
+        let after = KeySize::SET * (set + 2);
         if !word_kept(&chain[before..], &chain[after..]) {
             return false;
         }

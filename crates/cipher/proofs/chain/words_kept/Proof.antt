@@ -1,4 +1,4 @@
--- `chain::words_kept` meets its contract. The invariant: the rule holds for the first l sets. Assumes nothing.
+-- `chain::words_kept` meets its contract. The invariant: the rule holds behind each of the first sets. Assumes nothing.
 use mathlib.Core.Path.{_≡_, refl, sym, ap, _∙_}
 use mathlib.Core.Bool.{true, false}
 use Prim.Native.Nat.{ℕ, _+_, _*_, _≤_, _-_}
@@ -15,10 +15,10 @@ use Rattle.cipher.proofs.chain.words_kept.Statement.{statement}
 use Rattle.cipher.proofs.chain.words_kept.Tie as tie
 
 abbrev Inv-loop : tie.InvT-loop
-Inv-loop chain r l₀ l = (l ≤ r) × (wordRuleHolds l chain ≡ true)
+Inv-loop chain r set₀ set = (set ≤ r) × (wordRuleHolds set chain ≡ true)
 
 abbrev μ-loop : tie.MeasureT-loop
-μ-loop chain r l₀ l = r - l
+μ-loop chain r set₀ set = r - set
 
 loop-holds : tie.Need-loop-holds Inv-loop μ-loop
 unfolding wordRuleHolds every
@@ -28,8 +28,8 @@ word-kept-requires : tie.Need-word-kept-requires Inv-loop μ-loop
 word-kept-requires c κs =
     let h = c .before .before .before in
     let a = h .before .before .args in (
-      rw (part-end (a .chain .now) (512 * (h .loop .l + 1)), length-drop) (omega arith),
-      rw (part-end (a .chain .now) (512 * (h .loop .l + 2)), length-drop) (omega arith),
+      rw (part-end (a .chain .now) (512 * (h .loop .set + 1)), length-drop) (omega arith),
+      rw (part-end (a .chain .now) (512 * (h .loop .set + 2)), length-drop) (omega arith),
     )
 
 returns : tie.Need-returns Inv-loop μ-loop
@@ -37,8 +37,8 @@ unfolding wordRuleHolds
 returns c =
     let h = c .before .before .before .before .before in
     let a = h .before .before .args in
-    sym (every-not (a .r) _ (h .loop .l) (omega arith)
-    (word-turn (a .chain .now) (h .loop .l) false (sym (c .before .word-kept .ensures) ∙ not-true _ (c .if1 .taken))))
+    sym (every-not (a .r) _ (h .loop .set) (omega arith)
+    (word-turn (a .chain .now) (h .loop .set) false (sym (c .before .word-kept .ensures) ∙ not-true _ (c .if1 .taken))))
 
 loop-again : tie.Need-loop-again Inv-loop μ-loop
 unfolding wordRuleHolds
@@ -46,15 +46,15 @@ loop-again c =
     let h = c .before .before .before .before .before in
     let a = h .before .before .args in (
       omega arith,
-      every-next (h .loop .l) _ (h .loop .inv .1)
-          (word-turn (a .chain .now) (h .loop .l) true (sym (c .before .word-kept .ensures) ∙ not-false _ (c .if1 .left))),
+      every-next (h .loop .set) _ (h .loop .inv .1)
+          (word-turn (a .chain .now) (h .loop .set) true (sym (c .before .word-kept .ensures) ∙ not-false _ (c .if1 .left))),
     )
 
 returns-2 : tie.Need-returns-2 Inv-loop μ-loop
 returns-2 c =
     let h = c .before in
     let a = h .before .before .args in
-    let e : h .loop .l ≡ a .r = omega arith in
+    let e : h .loop .set ≡ a .r = omega arith in
     sym (h .loop .inv .1) ∙ ap (λ (n : ℕ). wordRuleHolds n (a .chain .now)) e
 
 pub words-kept-spec : {M : Type 1} → statement M
