@@ -1,0 +1,121 @@
+//! Books of the reference by what they are for: their tables, run on coded blocks and decoded, do
+//! what LEA does.
+
+use reference::book::{self, ADD, FOLD, GROUP, ROUND, START, TURN};
+use reference::chain::{self, MIDDLES, SET};
+use reference::lea::{self, Block};
+use reference::Size;
+
+/// The half bytes of a block: half byte j of word w at 8w + j.
+type Halves = [u8; 32];
+
+fn halves(block: &Block) -> Halves {
+    std::array::from_fn(|p| block[p / 2] >> (4 * (p % 2)) & 15)
+}
+
+fn block(halves: &Halves) -> Block {
+    std::array::from_fn(|k| halves[2 * k] + 16 * halves[2 * k + 1])
+}
+
+/// One round of tables.
+fn round(tables: &[u8], old: &Halves) -> Halves {
+    let (adds, turns) = tables.split_at(MIDDLES * ADD);
+    let mut sums = [0; MIDDLES];
+    for i in 0..3 {
+        let mut carry = 0;
+        for k in 8 * i..8 * i + 8 {
+            let index = 256 * carry + 16 * usize::from(old[k]) + usize::from(old[k + 8]);
+            let entry = adds[ADD * k + index];
+            sums[k] = entry & 15;
+            carry = usize::from(entry >> 4 & 1);
+        }
+    }
+    let from = |k: usize, j: usize| usize::from(sums[k - k % 8 + j % 8]);
+    std::array::from_fn(|k| {
+        let j = k % 8;
+        let pair = match k / 8 {
+            0 => 16 * from(k, j + 6) + from(k, j + 5),
+            1 => 16 * from(k, j + 2) + from(k, j + 1),
+            2 => 16 * from(k, j + 1) + from(k, j),
+            _ => return old[j],
+        };
+        turns[TURN * k + pair] & 15
+    })
+}
+
+/// A block folded in by one group of tables.
+fn fold(group: &[u8], text: &Halves, message: &Halves) -> Halves {
+    std::array::from_fn(|p| group[FOLD * p + 16 * usize::from(text[p]) + usize::from(message[p])])
+}
+
+fn decode(set: &[u8], coded: &Block) -> Block {
+    let mut inverse = [0; SET];
+    chain::invert(set, &mut inverse);
+    chain::code(&inverse, coded)
+}
+
+/// Numbers below a bound, the same in every run.
+fn numbers(seed: u32) -> impl FnMut(usize) -> usize {
+    let mut state = seed;
+    move |bound| {
+        state = state.wrapping_mul(1_664_525).wrapping_add(1_013_904_223);
+        (state >> 16) as usize % bound
+    }
+}
+
+fn xor(a: Block, b: Block) -> Block {
+    std::array::from_fn(|k| a[k] ^ b[k])
+}
+
+/// A key, a chain and their book.
+fn built(size: Size, below: &mut impl FnMut(usize) -> usize) -> (Vec<u8>, Vec<u8>, Vec<u8>) {
+    let key: Vec<u8> = (0..size.key_bytes()).map(|_| below(256) as u8).collect();
+    let chain = chain::random(size, below);
+    let mut book = vec![0; size.book_bytes()];
+    assert_eq!(book::build(&key, &chain, &mut book), Ok(()));
+    (key, chain, book)
+}
+
+#[test]
+fn rounds_of_tables_are_rounds_of_the_cipher() {
+    let mut below = numbers(1);
+    for size in Size::ALL {
+        let (key, bytes, book) = built(size, &mut below);
+        let chain = chain::check(key.len(), &bytes).ok().unwrap();
+        for _ in 0..20 {
+            let coded: Block = std::array::from_fn(|_| below(256) as u8);
+            let (plain, mut x) = (decode(chain.set(0), &coded), halves(&coded));
+            for l in 0..size.rounds() {
+                x = round(&book[START + 3 * GROUP + ROUND * l..][..ROUND], &x);
+                let want = lea::first_rounds(&key, l + 1, &plain).unwrap();
+                assert_eq!(decode(chain.set(l + 1), &block(&x)), want, "{size:?}, {l}");
+            }
+        }
+    }
+}
+
+#[test]
+fn folds_are_xors() {
+    let mut below = numbers(2);
+    for size in Size::ALL {
+        let (key, bytes, book) = built(size, &mut below);
+        let chain = chain::check(key.len(), &bytes).ok().unwrap();
+        let last = chain.set(size.rounds());
+        let zero: Block = book[..START].try_into().unwrap();
+        assert_eq!(decode(last, &zero), [0; 16], "{size:?}, the start");
+        let l = u128::from_be_bytes(lea::encipher(&key, &[0; 16]).unwrap());
+        let double = |n: u128| n << 1 ^ (n >> 127) * 0x87;
+        let keys = [0, double(l), double(double(l))].map(u128::to_be_bytes);
+        for (group, subkey) in book[START..][..3 * GROUP].chunks_exact(GROUP).zip(keys) {
+            let text: Block = std::array::from_fn(|_| below(256) as u8);
+            let message: Block = std::array::from_fn(|_| below(256) as u8);
+            let folded = block(&fold(group, &halves(&text), &halves(&message)));
+            let plain = xor(decode(last, &text), decode(chain.message(), &message));
+            assert_eq!(
+                decode(chain.set(0), &folded),
+                xor(plain, subkey),
+                "{size:?}"
+            );
+        }
+    }
+}
