@@ -1,23 +1,26 @@
--- Laws for the checks of sets and chains: what a turn of a loop, or a rule that was found broken or kept, says of the tests.
+-- Laws for the checks of sets and chains: what a turn of a loop, or a rule that was found broken or kept, says of the tests;
+-- and what the number that a check gives says of the set or the chain.
 -- Assumes nothing.
 use mathlib.Core.Path.{_≡_, refl, sym, ap, _∙_}
-use mathlib.Core.Bool.{Bool, true, false, not, _&&_}
-use mathlib.Core.List.{List}
+use mathlib.Core.Bool.{Bool, true, false, not, cond, _&&_}
+use mathlib.Core.List.{List, [], _∷_, _++_}
 use Prim.Native.Nat.{ℕ, suc, _+_, _*_, _-_, _≤_, _<_}
 use native.Mathlib.Decide.{ℕ-discrete}
 use native.Mathlib.Omega.{arith}
 use borrow.Author.Tests.{lt-ltb, le-ltb, eq-eqb, ne-eqb}
-use lib.Dec.{ltb, eqb}
+use lib.Dec.{ltb, eqb, lit<}
 use lib.ListN.{length, getD, set, take, drop, replicate}
 use lib.Seq.{getD-set-same, getD-set-other}
 use Rattle.lists.specs.Every.{every}
 use Rattle.lists.specs.Refusals.{first}
 use Rattle.lists.proofs.EveryLaws.{true-and, every-more, every-not}
+use Rattle.lists.proofs.RefusalLaws.{Clear}
 use Rattle.lists.proofs.TabulationLaws.{getD-replicate}
 use Rattle.lists.proofs.PartLaws.{part-end}
 use Rattle.cipher.specs.KeySize.{rounds, chainLength}
-use Rattle.cipher.specs.Chain.{setLength, isOneToOne, arePermutations, codingRuleHolds, wordKept, wordRuleHolds, maskRuleHolds, setTests, chainTests}
+use Rattle.cipher.specs.Chain.{Chain, LoneSet, setLength, isOneToOne, arePermutations, codingRuleHolds, wordKept, wordRuleHolds, maskRuleHolds, setTests, chainTests}
 use Rattle.cipher.specs.declared.size.KeySize.{KeySize}
+use Rattle.cipher.proofs.ChainTests.{set-tested, chain-tested}
 
 -- ---- a loop that tests one number after another
 
@@ -139,3 +142,56 @@ module _ (z : KeySize) (ch : List ℕ) where
         pub chain-right : maskRuleHolds (rounds z) ch ≡ true → first (chainTests z ch) (λ q. q) 0 ≡ 0
         unfolding chainTests first
         chain-right p = rw (eq-eqb (length ch) (chainLength z) h, c, w, p)
+
+-- ---- what the number that a check gives tells its caller
+
+-- no test has the number 0, which is the answer where none applies
+abbrev pub Numbered : List (Bool × ℕ) → Type 0
+Numbered [] = Unit {0}
+Numbered (t ∷ ts) = (0 < t .1) × Numbered ts
+
+pub told-clear : (ts : List (Bool × ℕ)) → Numbered ts → first ts (λ q. q) 0 ≡ 0 → Clear ts
+unfolding first
+told-clear [] n e = tt
+told-clear (t ∷ ts) n e = go (t .0) refl (told-clear ts (n .1)) e
+  where
+    go : (b : Bool) → t .0 ≡ b → (first ts (λ q. q) 0 ≡ 0 → Clear ts) → cond b (t .1) (first ts (λ q. q) 0) ≡ 0 → (t .0 ≡ false) × Clear ts
+    go true d k h = let l = n .0 in absurd (omega arith)
+    go false d k h = (d, k h)
+
+module _ {A : Type 0} (us : List (Bool × ℕ)) (refuse : ℕ → A) (go : A) where
+  -- a refusal is the same where other tests come behind
+  pub told-refused : (ts : List (Bool × ℕ)) (q : ℕ) → 0 < q → first ts (λ n. n) 0 ≡ q → first (ts ++ us) refuse go ≡ refuse q
+  unfolding first
+  told-refused [] q h e = absurd (omega arith)
+  told-refused (t ∷ ts) q h e = each (t .0) (told-refused ts q h) e
+    where
+      each : (b : Bool) → (first ts (λ n. n) 0 ≡ q → first (ts ++ us) refuse go ≡ refuse q)
+          → cond b (t .1) (first ts (λ n. n) 0) ≡ q → cond b (refuse (t .1)) (first (ts ++ us) refuse go) ≡ refuse q
+      each true k d = ap refuse d
+      each false k d = k d
+
+  -- and where there is none, those decide
+  pub clear-taken : (ts : List (Bool × ℕ)) → Clear ts → first (ts ++ us) refuse go ≡ first us refuse go
+  unfolding first
+  clear-taken [] c = refl
+  clear-taken (t ∷ ts) c = rw (c .0) (clear-taken ts (c .1))
+
+set-numbered : (s : List ℕ) → Numbered (setTests s)
+unfolding setTests
+set-numbered s = (lit< tt, (lit< tt, tt))
+
+chain-numbered : (z : KeySize) (ch : List ℕ) → Numbered (chainTests z ch)
+unfolding chainTests
+chain-numbered z ch = (lit< tt, (lit< tt, (lit< tt, (lit< tt, tt))))
+
+-- a set, or a chain, that a check did not refuse
+pub set-checked : (s : List ℕ) → first (setTests s) (λ q. q) 0 ≡ 0 → LoneSet s
+set-checked s e = set-tested s (told-clear (setTests s) (set-numbered s) e)
+
+module _ (z : KeySize) (ch : List ℕ) (e : first (chainTests z ch) (λ q. q) 0 ≡ 0) where
+  pub chain-checked : Chain z ch
+  chain-checked = chain-tested z ch (told-clear (chainTests z ch) (chain-numbered z ch) e)
+
+  pub chain-passed : {A : Type 0} (us : List (Bool × ℕ)) (refuse : ℕ → A) (go : A) → first (chainTests z ch ++ us) refuse go ≡ first us refuse go
+  chain-passed us refuse go = clear-taken us refuse go (chainTests z ch) (told-clear (chainTests z ch) (chain-numbered z ch) e)

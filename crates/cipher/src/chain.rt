@@ -1,5 +1,6 @@
-// Checks of a lone set and of a chain (01, "Chain of codings"). Each rule is tested by a function of
-// its own; the checks ask for the rules in the order of the refusals.
+// Checks of a lone set and of a chain (01, "Chain of codings": coding, set, chain and mask are its
+// terms). Each rule is tested by a function of its own; the checks ask for the rules in the order of
+// the refusals.
 ghost use mathlib.Core.Path.{_≡_};
 ghost use Prim.Native.Nat.{_+_, _*_, _≤_};
 ghost use lib.ListN.{length};
@@ -14,6 +15,7 @@ use crate::refusal::Refusal;
 use crate::size::KeySize;
 use crate::size::SizeFound;
 
+// A byte as an index.
 fn wide(x: u8) -> usize
     ensures { λ r. ⌜ r ≡ x ⌝ }
 {

@@ -1,4 +1,4 @@
-// The shared cipher part: key sizes, refusals, the block cipher LEA, and what CMAC takes from it.
+// The shared cipher part: key sizes, refusals, the block cipher LEA, what CMAC takes from it, codings.
 // Pad, driver, archive and works stand above it and use what its contracts and laws say.
 
 pub mod size; // size.rt: the three key sizes and the lengths that go with them
