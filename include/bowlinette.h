@@ -23,9 +23,9 @@ extern "C" {
 /* What is returned. */
 #define BOWLINETTE_DONE 0
 #define BOWLINETTE_REFUSED_KEY_LENGTH 1     /* the key is not of 16, 24 or 32 bytes */
-#define BOWLINETTE_REFUSED_CHAIN_LENGTH 2   /* the chain is not as long as the key asks, or the set not 512 bytes */
+#define BOWLINETTE_REFUSED_CHAIN_LENGTH 2   /* wrong length of a chain for the key, or of a set */
 #define BOWLINETTE_REFUSED_NO_PERMUTATION 3 /* a coding is no permutation of 0 to 15 */
-#define BOWLINETTE_REFUSED_WORD_RULE 4      /* word 3 of a set is not coded as word 0 of the set before */
+#define BOWLINETTE_REFUSED_WORD_RULE 4      /* word 3 of a set differs from word 0 of the set before */
 #define BOWLINETTE_REFUSED_MASK 5           /* a mask is over 1, or not 0 for half byte 0 */
 #define BOWLINETTE_REFUSED_BLOCK_LENGTH 7   /* the block is not of 16 bytes */
 

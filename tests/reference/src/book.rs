@@ -35,7 +35,7 @@ fn block_half(block: &Block, p: usize) -> u8 {
 fn double(block: Block) -> Block {
     let number = u128::from_be_bytes(block);
     let fallen = if number >> 127 == 1 { 0x87 } else { 0 };
-    (number << 1 ^ fallen).to_be_bytes()
+    ((number << 1) ^ fallen).to_be_bytes()
 }
 
 /// What the tables of a round are made of.

@@ -104,7 +104,7 @@ fn folds_are_xors() {
         let zero: Block = book[..START].try_into().unwrap();
         assert_eq!(decode(last, &zero), [0; 16], "{size:?}, the start");
         let l = u128::from_be_bytes(lea::encipher(&key, &[0; 16]).unwrap());
-        let double = |n: u128| n << 1 ^ (n >> 127) * 0x87;
+        let double = |n: u128| (n << 1) ^ ((n >> 127) * 0x87);
         let keys = [0, double(l), double(double(l))].map(u128::to_be_bytes);
         for (group, subkey) in book[START..][..3 * GROUP].chunks_exact(GROUP).zip(keys) {
             let text: Block = std::array::from_fn(|_| below(256) as u8);
