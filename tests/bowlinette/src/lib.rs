@@ -37,6 +37,7 @@ mod c {
             text: *const u8,
             text_length: usize,
             out: *mut u8,
+        ) -> u32;
         pub fn bowlinette_check_set(set: *const u8, set_length: usize) -> u32;
         pub fn bowlinette_check_chain(
             key_length: usize,
