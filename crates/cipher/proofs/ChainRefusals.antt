@@ -2,18 +2,21 @@
 -- given where its rule is broken and those of the lower numbers hold. The cases exclude each other and leave none out. What
 -- stands behind these tests, `ts`, is reached exactly by a valid set, or a valid chain.
 -- Assumes nothing.
-use mathlib.Core.Path.{_≡_, refl, ap}
+use mathlib.Core.Path.{_≡_, refl, ap, _∙_}
 use mathlib.Core.Bool.{Bool, true, false, not}
-use mathlib.Core.List.{List, _++_}
+use mathlib.Core.List.{List, [], _++_}
 use Prim.Native.Nat.{ℕ}
 use borrow.Author.Tests.{eq-eqb, ne-eqb}
 use lib.Dec.{eqb}
 use lib.ListN.{length}
 use Rattle.lists.specs.Refusals.{first}
-use Rattle.cipher.specs.KeySize.{rounds, chainLength}
+use Rattle.cipher.specs.KeySize.{rounds, keyLength, chainLength}
 use Rattle.cipher.specs.Coding.{Permutations, setOf}
 use Rattle.cipher.specs.Chain.{setLength, CodingRule, WordRule, MaskRule, Chain, LoneSet, arePermutations, codingRuleHolds, wordRuleHolds, maskRuleHolds, setTests, chainTests}
+use Rattle.cipher.specs.Answers.{setChecked, chainChecked}
 use Rattle.cipher.specs.declared.size.KeySize.{KeySize}
+use Rattle.cipher.proofs.KeySizeLaws.{found-none, size-of-key}
+use Rattle.cipher.proofs.AnswerLaws.{length-refused, length-taken}
 use Rattle.cipher.proofs.ChainTests.{set-permutations, permutations-set, codings-tested, tested-codings, word-tested, tested-word, masks-tested, tested-masks}
 
 -- a test that is passed only by what is not so, is not passed
@@ -86,3 +89,43 @@ module _ {A : Type 0} (ts : List (Bool × ℕ)) (refuse : ℕ → A) (go : A) wh
           passed (wordRuleHolds (rounds z) ch) (tested-word (rounds z) ch (h .word3)),
           passed (maskRuleHolds (rounds z) ch) (tested-masks (rounds z) ch (h .masks)),
         )
+
+-- ---- the checks: each number exactly under its condition
+
+pub check-set-length : (s : List ℕ) → (length s ≡ setLength → ⊥) → setChecked s ≡ 2
+unfolding setTests
+check-set-length s h = set-length-refused [] (λ q. q) 0 s h
+
+pub check-set-coding : (s : List ℕ) → length s ≡ setLength → (Permutations (setOf s) → ⊥) → setChecked s ≡ 3
+unfolding setTests
+check-set-coding s h c = set-coding-refused [] (λ q. q) 0 s h c
+
+pub check-set-valid : (s : List ℕ) → LoneSet s → setChecked s ≡ 0
+unfolding setTests first
+check-set-valid s h = set-taken [] (λ q. q) 0 s h
+
+module _ (ch : List ℕ) where
+  pub check-key : (n : ℕ) → (n ≡ 16 → ⊥) → (n ≡ 24 → ⊥) → (n ≡ 32 → ⊥) → chainChecked n ch ≡ 1
+  check-key n a b c = length-refused n (λ z. chainTests z ch) (λ q. q) (λ z. 0) (found-none keyLength n a b c)
+
+  module _ (z : KeySize) where
+    sized : chainChecked (keyLength z) ch ≡ first (chainTests z ch ++ []) (λ q. q) 0
+    unfolding chainTests
+    sized = length-taken (keyLength z) (λ y. chainTests y ch) (λ q. q) (λ y. 0) z (size-of-key z)
+
+    pub check-length : (length ch ≡ chainLength z → ⊥) → chainChecked (keyLength z) ch ≡ 2
+    check-length h = sized ∙ chain-length-refused [] (λ q. q) 0 z ch h
+
+    pub check-valid : Chain z ch → chainChecked (keyLength z) ch ≡ 0
+    unfolding first
+    check-valid h = sized ∙ chain-taken [] (λ q. q) 0 z ch h
+
+    module _ (h : length ch ≡ chainLength z) where
+      pub check-coding : (CodingRule (rounds z) ch → ⊥) → chainChecked (keyLength z) ch ≡ 3
+      check-coding c = sized ∙ chain-coding-refused [] (λ q. q) 0 z ch h c
+
+      pub check-word : CodingRule (rounds z) ch → (WordRule (rounds z) ch → ⊥) → chainChecked (keyLength z) ch ≡ 4
+      check-word c w = sized ∙ chain-word-refused [] (λ q. q) 0 z ch h c w
+
+      pub check-mask : CodingRule (rounds z) ch → WordRule (rounds z) ch → (MaskRule (rounds z) ch → ⊥) → chainChecked (keyLength z) ch ≡ 5
+      check-mask c w m = sized ∙ chain-mask-refused [] (λ q. q) 0 z ch h c w m
