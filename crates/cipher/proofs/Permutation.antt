@@ -5,13 +5,14 @@ use mathlib.Core.Path.{_≡_, refl, sym, ap, ap₂, _∙_}
 use mathlib.Core.Logic.{_≢_, _⊎_, inl, inr}
 use mathlib.Core.Bool.{Bool, true, false, cond}
 use mathlib.Core.List.{List}
-use Prim.Native.Nat.{ℕ, zero, suc, _≤_, _<_, zero-le, suc-le-suc}
+use Prim.Native.Nat.{ℕ, zero, suc, _+_, _≤_, _<_, zero-le, suc-le-suc}
 use native.Mathlib.Nat.{le-of-suc-le-suc, not-suc-le-zero, zero-lt-suc, le-refl, suc-inj, eq-or-lt-of-le}
 use native.Mathlib.Decide.{ℕ-discrete}
 use native.Mathlib.Omega.{arith}
 use borrow.Author.Tests.{eqb-true, eqb-false}
 use lib.Dec.{eqb}
-use lib.ListN.{length, getD}
+use lib.ListN.{length, getD, set}
+use lib.Seq.{getD-set-same, getD-set-other}
 use Rattle.lists.specs.Tabulation.{tab}
 use Rattle.lists.proofs.TabulationLaws.{tab-is}
 use Rattle.cipher.specs.Coding.{OneToOne, Permutation, placeOf, decode}
@@ -148,6 +149,15 @@ module _ (f : ℕ → ℕ) (h : Permutation f) where
   inverse-is t e a =
       tab-is 16 (decode f) t e (λ k l.
       sym (a (decode f k) (decode-lt k l)) ∙ ap (λ (x : ℕ). getD t x 0) (code-decode k l))
+
+  -- so a loop that puts each v at the place f v makes that table: one turn
+  pub placed-turn : (t : List ℕ) (v x : ℕ) → length t ≡ 16 → v < 16 → x ≡ f v → ((w : ℕ) → w < v → getD t (f w) 0 ≡ w)
+      → (w : ℕ) → w < v + 1 → getD (set t x v) (f w) 0 ≡ w
+  placed-turn t v x e b r a w l = rw r (go (ℕ-discrete w v))
+    where
+      go : Dec (w ≡ v) → getD (set t (f v) v) (f w) 0 ≡ w
+      go (yes d) = rw d (getD-set-same t (f v) v 0 (rw e (h .low v b)))
+      go (no d) = getD-set-other t (f v) (f w) v 0 (λ q. d (h .once w v (omega arith) b q)) ∙ a w (omega arith)
 
 -- decoding looks at the values below 16 alone
 pub decode-ext : (f g : ℕ → ℕ) (v : ℕ) → ((i : ℕ) → i < 16 → f i ≡ g i) → decode f v ≡ decode g v

@@ -40,6 +40,10 @@ Permutations S = (w j : ℕ) → w < 4 → j < 8 → Permutation (S w j)
 abbrev pub codingAt : List ℕ → ℕ → ℕ → ℕ
 codingAt s k v = getD s (16 * k + v) 0
 
+-- the first n codings in s are permutations
+abbrev pub FirstPermutations : ℕ → List ℕ → Type 0
+FirstPermutations n s = (k : ℕ) → k < n → Permutation (codingAt s k)
+
 -- the set that lies in s: half byte j of word w has coding 8w + j
 abbrev pub setOf : List ℕ → Set
 setOf s w j = codingAt s (8 * w + j)

@@ -11,3 +11,4 @@ pub mod lea; // lea.rt: the operations on a key and a block
 pub mod cmac; // cmac.rt: doubling, the subkeys of CMAC and its chaining
 pub mod chain; // chain.rt: the checks of sets and chains
 pub mod block; // block.rt: blocks coded by a set
+pub mod invert; // invert.rt: codings inverted once
