@@ -1,2 +1,5 @@
 pub mod RowLaws
 pub mod MadeLaws
+pub mod BuildLaws
+pub mod GroupLaws
+pub mod AnswerLaws

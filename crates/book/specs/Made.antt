@@ -6,9 +6,10 @@ use Prim.Native.Nat.{ℕ, zero, suc, _+_, _*_, _/_, _%_, _≤_, _<_}
 use lib.Bits.{bitXor}
 use lib.ListN.{length, getD, drop}
 use Rattle.lists.specs.Tabulation.{tab}
+use Rattle.lists.specs.Blocks.{zeros}
 use Rattle.lists.specs.HalfBytes.{halfByte}
-use Rattle.cipher.specs.Coding.{codingAt, blockHalf}
-use Rattle.cipher.specs.Tables.{addEntry, upper, lower}
+use Rattle.cipher.specs.Coding.{FirstPermutations, codingAt, setOf, blockHalf}
+use Rattle.cipher.specs.Tables.{RoundCodings, addEntry, upper, lower}
 use Rattle.book.specs.Rows.{sumTable, xorTable}
 
 -- 24 codings of half bytes, then 24 masks that are bits
@@ -16,6 +17,25 @@ pub record RoundBytes (R : List ℕ) : Type 0 where
   pub room : 408 ≤ length R
   pub codings : (v : ℕ) → v < 384 → getD R v 0 < 16
   pub masks : (k : ℕ) → 384 ≤ k → k < 408 → getD R k 0 < 2
+
+-- what the tables of a round are made from, each in the front of a list: the set before the round, the set after it, and the
+-- bytes for the round; valid as in a valid chain
+pub record RoundReady (B A R : List ℕ) : Type 0 where
+  pub before : FirstPermutations 32 B
+  pub middles : FirstPermutations 24 R
+  pub masks : (k : ℕ) → 384 ≤ k → k < 408 → getD R k 0 < 2
+  pub roomBefore : 512 ≤ length B
+  pub roomAfter : 512 ≤ length A
+  pub roomMiddles : 408 ≤ length R
+
+unfoldable pub codingsOf : List ℕ → List ℕ → List ℕ → RoundCodings
+codingsOf B A R = record {
+  before = setOf B;
+  after = setOf A;
+  middle = setOf R;
+  maskIn = λ i j. getD R (384 + (8 * i + j)) 0;
+  maskOut = λ i j. getD R (384 + (8 * i + suc j)) 0;
+}
 
 -- ---- add tables
 
@@ -66,3 +86,9 @@ madeTurn s S p =
 
 unfoldable pub madeFold : List ℕ → List ℕ → List ℕ → List ℕ → ℕ → List ℕ
 madeFold s u S k p = xorTable (drop (16 * p) S) (tab 16 (keyedBy s (16 * p) (blockHalf k (p / 8) (p % 8)))) (drop (16 * p) u)
+
+-- the key blocks of the three groups
+unfoldable pub threeKeys : List ℕ → List ℕ → ℕ → List ℕ
+threeKeys k1 k2 zero = zeros
+threeKeys k1 k2 (suc zero) = k1
+threeKeys k1 k2 (suc (suc g)) = k2

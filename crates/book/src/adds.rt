@@ -15,8 +15,6 @@ use cipher::size::KeySize;
 
 // Where the masks (01's term) stand in the bytes that a chain has for a round.
 const MASKS: usize = KeySize::CODING * KeySize::MIDDLES;
-// Half bytes of a word.
-pub const HALVES: usize = 8;
 
 // Half byte j of a word.
 pub fn half(w: u32, j: usize) -> u8
@@ -63,7 +61,7 @@ fn carry_out(round: &[u8], p: usize, c: usize) -> u8
     requires { ⌜ (p < 24) × (c < 2) × RoundBytes (now round) ⌝ }
     ensures { λ r. ⌜ (r ≡ carryHeld (p % 8) c (getD (now (round .entry)) (385 + p) 0)) × (r < 2) ⌝ }
 {
-    if p % HALVES < HALVES - 1 {
+    if p % KeySize::HALVES < KeySize::HALVES - 1 {
         return (c as u8) ^ round[MASKS + 1 + p];
     }
     0
@@ -95,11 +93,15 @@ fn add_table(s: &[u8], round: &[u8], k: [u32; 6], p: usize, out: &mut [u8])
     requires { ⌜ (p < 24) × (length (now s) ≡ 512) × Below 16 (now s) × RoundBytes (now round) × (length (now out) ≡ 512) ⌝ }
     ensures { λ _. ⌜ now (out .exit) ≡ madeAdd (now (s .entry)) (now (round .entry)) k p ⌝ }
 {
-    let i = p / HALVES;
-    let j = p % HALVES;
+    let i = p / KeySize::HALVES;
+    let j = p % KeySize::HALVES;
     let at = KeySize::CODING * p;
     let a = row_summands(s, at, half(k[2 * i], j), round[MASKS + p]);
-    let b = keyed(s, at + HALVES * KeySize::CODING, half(k[2 * i + 1], j));
+    let b = keyed(
+        s,
+        at + KeySize::HALVES * KeySize::CODING,
+        half(k[2 * i + 1], j),
+    );
     let e = sum_entries(round, p);
     sum_table(&e, &a, &b, out);
 }

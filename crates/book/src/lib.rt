@@ -4,3 +4,6 @@ mod rows; // rows.rt: tables as rows of sixteen entries
 mod adds; // adds.rt: add tables
 mod turns; // turns.rt: turn tables
 mod folds; // folds.rt: fold tables
+mod rounds; // rounds.rt: the tables of the rounds
+mod groups; // groups.rt: the start and the groups of fold tables
+pub mod build; // build.rt: the operations, a book and one round of it

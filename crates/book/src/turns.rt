@@ -6,7 +6,6 @@ ghost use Rattle.lists.specs.Tabulation.{tab, chunks};
 ghost use Rattle.lists.specs.Blocks.{Below};
 ghost use Rattle.cipher.specs.Tables.{upper, lower};
 ghost use Rattle.book.specs.Made.{upperPart, lowerPart, upperParts, lowerParts, madeTurn};
-use crate::adds::HALVES;
 use crate::rows::sum_table;
 use cipher::size::KeySize;
 
@@ -66,14 +65,14 @@ fn upper_at(i: usize, j: usize) -> usize
     requires { ⌜ (i < 3) × (j < 8) ⌝ }
     ensures { λ r. ⌜ (r ≡ 16 * (8 * i + upper i j)) × (r + 16 ≤ 384) ⌝ }
 {
-    KeySize::CODING * (HALVES * i + (j + UPPER[i]) % HALVES)
+    KeySize::CODING * (KeySize::HALVES * i + (j + UPPER[i]) % KeySize::HALVES)
 }
 
 fn lower_at(i: usize, j: usize) -> usize
     requires { ⌜ (i < 3) × (j < 8) ⌝ }
     ensures { λ r. ⌜ (r ≡ 16 * (8 * i + lower i j)) × (r + 16 ≤ 384) ⌝ }
 {
-    KeySize::CODING * (HALVES * i + (j + LOWER[i]) % HALVES)
+    KeySize::CODING * (KeySize::HALVES * i + (j + LOWER[i]) % KeySize::HALVES)
 }
 
 // Turn table p of a round: s has its middle codings inverted, after begins with the set behind it.
@@ -81,8 +80,8 @@ fn turn_table(s: &[u8], after: &[u8], p: usize, out: &mut [u8])
     requires { ⌜ (p < 24) × (length (now s) ≡ 384) × Below 16 (now s) × (384 ≤ length (now after)) × (length (now out) ≡ 256) ⌝ }
     ensures { λ _. ⌜ now (out .exit) ≡ madeTurn (now (s .entry)) (now (after .entry)) p ⌝ }
 {
-    let i = p / HALVES;
-    let j = p % HALVES;
+    let i = p / KeySize::HALVES;
+    let j = p % KeySize::HALVES;
     let a = upper_parts(s, upper_at(i, j), i);
     let b = lower_parts(s, lower_at(i, j), i);
     let at = KeySize::CODING * p;

@@ -1,0 +1,102 @@
+-- The answers of the builder, case by case. The cases exclude each other and leave none out.
+-- Assumes nothing.
+use mathlib.Core.Path.{_≡_, refl, sym, ap, ap₂, _∙_}
+use mathlib.Core.Bool.{Bool, true, false, not}
+use mathlib.Core.List.{List, [], _∷_, _++_}
+use Prim.Native.Nat.{ℕ, _-_, _%_, _≤_, _<_}
+use native.Mathlib.Nat.{mod-lt}
+use native.Mathlib.Omega.{arith}
+use borrow.Author.Tests.{lt-ltb, le-ltb}
+use lib.Dec.{ltb}
+use lib.ListN.{length, getD, take, drop}
+use lib.Seq.{length-take-le}
+use Rattle.lists.specs.Refusals.{first}
+use Rattle.lists.proofs.RefusalLaws.{first-hit, first-pass, Clear}
+use Rattle.cipher.specs.KeySize.{rounds, sizeOfKey}
+use Rattle.cipher.specs.Schedule.{schedule}
+use Rattle.cipher.specs.Book.{roundPart, bookRound}
+use Rattle.cipher.proofs.KeySizeLaws.{rounds-more}
+use Rattle.cipher.specs.Chain.{Chain, roundCodings, chainTests}
+use Rattle.cipher.proofs.ChainTests.{chain-tested}
+use Rattle.cipher.proofs.ChainRefusals.{chain-taken}
+use Rattle.cipher.proofs.AnswerLaws.{length-refused, length-taken}
+use Rattle.cipher.specs.declared.size.KeySize.{KeySize}
+use Rattle.cipher.specs.declared.size.SizeFound.the-variants.{Found, Unknown}
+use Rattle.book.specs.Answers.{roomTests, builtInto}
+
+-- no number is 0
+abbrev Numbered : List (Bool × ℕ) → Type 0
+Numbered [] = Unit {0}
+Numbered (t ∷ ts) = (t .1 ≡ 0 → ⊥) × Numbered ts
+
+-- tests that answered 0 are passed, and those that answered another number give it whatever follows
+passed : (ts : List (Bool × ℕ)) → Numbered ts → first ts (λ n. n) 0 ≡ 0 → Clear ts
+unfolding first
+passed [] h e = tt
+passed ((true, n) ∷ ts) h e = absurd (h .0 e)
+passed ((false, n) ∷ ts) h e = (refl, passed ts (h .1) e)
+
+hit : {A : Type 0} (ts us : List (Bool × ℕ)) (refuse : ℕ → A) (go : A) (n : ℕ) → first ts (λ k. k) 0 ≡ n → (n ≡ 0 → ⊥) → first (ts ++ us) refuse go ≡ refuse n
+unfolding first
+hit [] us refuse go n e h = absurd (h (sym e))
+hit ((true, k) ∷ ts) us refuse go n e h = ap refuse e
+hit ((false, k) ∷ ts) us refuse go n e h = hit ts us refuse go n e h
+
+numbered : (z : KeySize) (ch : List ℕ) → Numbered (chainTests z ch)
+unfolding chainTests
+numbered z ch = (λ e. omega arith, (λ e. omega arith, (λ e. omega arith, (λ e. omega arith, tt))))
+
+-- a chain whose tests answered 0 is valid
+pub checked-valid : (z : KeySize) (ch : List ℕ) → first (chainTests z ch) (λ n. n) 0 ≡ 0 → Chain z ch
+checked-valid z ch e = chain-tested z ch (passed (chainTests z ch) (numbered z ch) e)
+
+module _ (key ch out : List ℕ) (len : KeySize → ℕ) (part : KeySize → List ℕ) where
+  tests : KeySize → List (Bool × ℕ)
+  tests z = chainTests z ch ++ roomTests (len z) out
+
+  done : KeySize → ℕ × List ℕ
+  done z = (0, part z ++ drop (len z) out)
+
+  pub built-key : sizeOfKey (length key) ≡ Unknown → builtInto key ch out len part ≡ (1, out)
+  unfolding builtInto tests done
+  built-key e = length-refused (length key) tests (λ n. (n, out)) done e
+
+  module _ (z : KeySize) (e : sizeOfKey (length key) ≡ Found z) where
+    sized : builtInto key ch out len part ≡ first (chainTests z ch ++ roomTests (len z) out) (λ n. (n, out)) (0, part z ++ drop (len z) out)
+    unfolding builtInto tests done
+    sized = length-taken (length key) tests (λ n. (n, out)) done z e
+
+    pub built-chain : (n m : ℕ) → n ≡ first (chainTests z ch) (λ k. k) 0 → m ≡ n → (m ≡ 0 → ⊥) → builtInto key ch out len part ≡ (n, out)
+    built-chain n m q p h =
+        sized ∙ hit (chainTests z ch) (roomTests (len z) out) (λ k. (k, out)) (0, part z ++ drop (len z) out) n (sym q) (λ r. h (p ∙ r))
+
+    module _ (v : Chain z ch) where
+      taken : builtInto key ch out len part ≡ first (roomTests (len z) out) (λ n. (n, out)) (0, part z ++ drop (len z) out)
+      taken = sized ∙ chain-taken (roomTests (len z) out) (λ n. (n, out)) (0, part z ++ drop (len z) out) z ch v
+
+      pub built-room : length out < len z → builtInto key ch out len part ≡ (9, out)
+      built-room h = taken ∙ first-hit (ltb (length out) (len z)) 9 [] (λ n. (n, out)) (0, part z ++ drop (len z) out) (lt-ltb (length out) (len z) h)
+
+      pub built-done : len z ≤ length out → (x : List ℕ) → x ≡ part z → (0, x ++ drop (len z) out) ≡ builtInto key ch out len part
+      unfolding first
+      built-done h x p =
+          ap (λ (y : List ℕ). (0, y ++ drop (len z) out)) p
+          ∙ sym (taken ∙ first-pass (ltb (length out) (len z)) 9 [] (λ n. (n, out)) (0, part z ++ drop (len z) out) (le-ltb (length out) (len z) h))
+
+-- the front of a buffer, as it is lent, and what is behind it
+pub front-length : (n m : ℕ) (out : List ℕ) → n ≡ m → m ≤ length out → length (take (n - 0) out) ≡ m
+front-length n m out e h =
+    let d : n - 0 ≡ m = omega arith in
+    rw d (length-take-le m out h)
+
+-- a round counted round
+pub round-below : (z : KeySize) (l r : ℕ) → r ≡ rounds z → l % r < rounds z
+round-below z l r e =
+    let p = rounds-more z in
+    rw e (mod-lt l (omega arith))
+
+pub round-is : (z : KeySize) (key ch x : List ℕ) (rows : List (List ℕ)) (l r : ℕ) → r ≡ rounds z → rows ≡ schedule z key
+    → x ≡ roundPart (roundCodings (rounds z) ch (l % r)) (getD rows (l % r) []) → x ≡ bookRound (rounds z) (schedule z key) ch (l % rounds z)
+unfolding bookRound
+round-is z key ch x rows l r er es e =
+    e ∙ ap₂ (λ (q : ℕ) (t : List (List ℕ)). roundPart (roundCodings (rounds z) ch (l % q)) (getD t (l % q) [])) er es

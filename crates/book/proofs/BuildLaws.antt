@@ -1,0 +1,262 @@
+-- The tables that the builder makes from inverted codings are the tables of the book.
+-- Assumes nothing.
+use mathlib.Core.Path.{_≡_, refl, sym, ap, ap₂, _∙_}
+use mathlib.Core.List.{List, _++_}
+use Prim.Native.Nat.{ℕ, zero, suc, _+_, _-_, _*_, _/_, _%_, _≤_, _<_}
+use native.Mathlib.Decide.{decLt}
+use native.Mathlib.Nat.{le-of-eq}
+use native.Mathlib.Omega.{arith}
+use lib.Bits.{bitXor, xor-lt, xor-comm}
+use lib.Dec.{lit<}
+use lib.ListN.{length, getD, take, drop, length-append, length-drop, List·getD-eq-default}
+use lib.Seq.{getD-drop, drop-at, length-take-le}
+use Rattle.lists.specs.Tabulation.{tab, chunks}
+use Rattle.lists.specs.Blocks.{Below}
+use Rattle.lists.specs.HalfBytes.{halfByte}
+use Rattle.lists.proofs.TabulationLaws.{length-tab, getD-tab, tab-ext}
+use Rattle.lists.proofs.ChunkLaws.{length-chunks, chunks-ext}
+use Rattle.lists.proofs.PartLaws.{grown-part, grown-whole}
+use Rattle.lists.proofs.HalfByteLaws.{half-lt}
+use Rattle.lists.proofs.XorLaws.{xor-assoc}
+use Rattle.cipher.specs.Coding.{FirstPermutations, codingAt, setOf, decode, inverted, blockHalf}
+use Rattle.cipher.specs.Tables.{addEntry, addSum, addTable, turned, upper, lower, turnTable, foldTable}
+use Rattle.cipher.specs.KeySize.{rounds}
+use Rattle.cipher.specs.Chain.{Chain, roundBytes, roundCodings}
+use Rattle.cipher.specs.declared.size.KeySize.{KeySize}
+use Rattle.cipher.specs.Book.{addPart, turnPart, roundPart, foldPart, groupPart}
+use Rattle.cipher.proofs.Permutation.{decode-lt}
+use Rattle.cipher.proofs.InverseLaws.{length-inverted, inverted-at}
+use Rattle.cipher.proofs.TableLaws.{add-rows, turn-rows, fold-rows}
+use Rattle.book.specs.Rows.{sumRow, sumTable, xorRow, xorTable}
+use Rattle.book.specs.Made.{RoundBytes, RoundReady, codingsOf, keyedBy, summands, sumEntries, madeAdd, upperPart, lowerPart, upperParts, lowerParts, madeTurn, madeFold}
+use Rattle.book.proofs.MadeLaws.{length-add, length-turn, length-fold}
+
+-- ---- tables by their entries
+
+pub sum-table-is : (E : List ℕ) (n : ℕ) (a b : ℕ → ℕ) (g : ℕ → ℕ → ℕ) → ((x q : ℕ) → x < n → q < 16 → getD E (a x + b q) 0 ≡ g x q)
+    → sumTable E (tab n a) (tab 16 b) ≡ chunks n (λ x. tab 16 (g x))
+unfolding sumTable sumRow
+sum-table-is E n a b g h =
+    ap (λ (m : ℕ). chunks m (λ x. tab 16 (λ q. getD E (getD (tab n a) x 0 + getD (tab 16 b) q 0) 0))) (length-tab n a)
+    ∙ chunks-ext n (λ x. tab 16 (λ q. getD E (getD (tab n a) x 0 + getD (tab 16 b) q 0) 0)) (λ x. tab 16 (g x)) (λ x hx.
+    tab-ext 16 (λ q. getD E (getD (tab n a) x 0 + getD (tab 16 b) q 0) 0) (g x) (λ q hq.
+    ap₂ (λ (y z : ℕ). getD E (y + z) 0) (getD-tab n a x hx) (getD-tab 16 b q hq) ∙ h x q hx hq))
+
+pub xor-table-is : (E : List ℕ) (n : ℕ) (a : ℕ → ℕ) (B : List ℕ) (g : ℕ → ℕ → ℕ)
+    → ((x q : ℕ) → x < n → q < 16 → getD E (bitXor (a x) (getD B q 0)) 0 ≡ g x q)
+    → xorTable E (tab n a) B ≡ chunks n (λ x. tab 16 (g x))
+unfolding xorTable xorRow
+xor-table-is E n a B g h =
+    ap (λ (m : ℕ). chunks m (λ x. tab 16 (λ q. getD E (bitXor (getD (tab n a) x 0) (getD B q 0)) 0))) (length-tab n a)
+    ∙ chunks-ext n (λ x. tab 16 (λ q. getD E (bitXor (getD (tab n a) x 0) (getD B q 0)) 0)) (λ x. tab 16 (g x)) (λ x hx.
+    tab-ext 16 (λ q. getD E (bitXor (getD (tab n a) x 0) (getD B q 0)) 0) (g x) (λ q hq.
+    ap (λ (y : ℕ). getD E (bitXor y (getD B q 0)) 0) (getD-tab n a x hx) ∙ h x q hx hq))
+
+-- ---- inverted codings
+
+module _ (n : ℕ) (s : List ℕ) where
+  -- the value at o, which is place v of coding k
+  pub inverse-at : (o k v : ℕ) → k < n → v < 16 → o ≡ 16 * k + v → decode (codingAt s k) v ≡ getD (inverted n s) o 0
+  inverse-at o k v hk hv e = sym (ap (λ (m : ℕ). getD (inverted n s) m 0) e ∙ inverted-at n s k v hk hv)
+
+  pub inverse-below : FirstPermutations n s → Below 16 (inverted n s)
+  inverse-below h o = go (decLt o (n * 16))
+    where
+      go : Dec (o < n * 16) → getD (inverted n s) o 0 < 16
+      go (yes d) =
+          let e = inverse-at o (o / 16) (o % 16) (omega arith) (omega arith) (omega arith) in
+          let b = decode-lt (codingAt s (o / 16)) (h (o / 16) (omega arith)) (o % 16) (omega arith) in
+          omega arith
+      go (no d) = rw (List·getD-eq-default (inverted n s) 0 {n = o} (rw (length-inverted n s) (omega arith))) (lit< tt)
+
+-- ---- a round
+
+pub round-bytes : (B A R : List ℕ) → RoundReady B A R → RoundBytes R
+round-bytes B A R h = record {
+  room = h .roomMiddles;
+  codings = λ v l.
+      let e : 16 * (v / 16) + v % 16 ≡ v = omega arith in
+      let b = h .middles (v / 16) (omega arith) .low (v % 16) (omega arith) in
+      rw e at b;
+  masks = h .masks;
+}
+
+parts-turn : (i u v : ℕ) → v < 16 → upperPart i u + lowerPart i v ≡ turned i u v
+parts-turn zero u v h = omega arith
+parts-turn (suc zero) u v h = omega arith
+parts-turn (suc (suc i)) u v h = omega arith
+
+upper-lt : (i j : ℕ) → upper i j < 8
+upper-lt zero j = omega arith
+upper-lt (suc zero) j = omega arith
+upper-lt (suc (suc i)) j = omega arith
+
+lower-lt : (i j : ℕ) → j < 8 → lower i j < 8
+lower-lt zero j h = omega arith
+lower-lt (suc zero) j h = omega arith
+lower-lt (suc (suc i)) j h = h
+
+-- an add table, for p = 8i + j
+module _ (B R : List ℕ) (before : FirstPermutations 32 B) (p i j k l m m' : ℕ) (hi : i < 3) (hj : j < 8) (hk : k < 16) (hl : l < 16) (hm : m < 2)
+    (e : 8 * i + j ≡ p) (entry : ℕ → ℕ) where
+  add-at : (x q : ℕ) → x < 32 → q < 16
+      → getD (tab 32 entry) (summands (inverted 32 B) (16 * p) k m x + keyedBy (inverted 32 B) (16 * p + 128) l q) 0
+      ≡ entry (keyedBy (inverted 32 B) (16 * p) k (x % 16) + keyedBy (inverted 32 B) (16 * p + 128) l q + bitXor (x / 16) m)
+  add-at x q hx hq =
+      let low = inverse-below 32 B before in
+      let a = xor-lt 4 (getD (inverted 32 B) (16 * p + x % 16) 0) k (low (16 * p + x % 16)) hk in
+      let b = xor-lt 4 (getD (inverted 32 B) (16 * p + 128 + q) 0) l (low (16 * p + 128 + q)) hl in
+      let c = xor-lt 1 (x / 16) m (omega arith) hm in
+      let d : summands (inverted 32 B) (16 * p) k m x + keyedBy (inverted 32 B) (16 * p + 128) l q
+      ≡ keyedBy (inverted 32 B) (16 * p) k (x % 16) + keyedBy (inverted 32 B) (16 * p + 128) l q + bitXor (x / 16) m = omega arith in
+      ap (λ (n : ℕ). getD (tab 32 entry) n 0) d
+      ∙ getD-tab 32 entry (keyedBy (inverted 32 B) (16 * p) k (x % 16) + keyedBy (inverted 32 B) (16 * p + 128) l q + bitXor (x / 16) m) (omega arith)
+
+  add-rows-are : (h : ℕ → ℕ) → ((n : ℕ) → n < 32 → addEntry j h m' n ≡ entry n)
+      → sumTable (tab 32 entry) (tab 32 (summands (inverted 32 B) (16 * p) k m)) (tab 16 (keyedBy (inverted 32 B) (16 * p + 128) l))
+      ≡ tab 512 (λ n. addEntry j h m' (addSum (codingAt B (8 * i + j)) (codingAt B (8 * suc i + j)) k l m n))
+  add-rows-are h same =
+      sum-table-is (tab 32 entry) 32 (summands (inverted 32 B) (16 * p) k m) (keyedBy (inverted 32 B) (16 * p + 128) l)
+      (λ x q. entry (keyedBy (inverted 32 B) (16 * p) k (x % 16) + keyedBy (inverted 32 B) (16 * p + 128) l q + bitXor (x / 16) m)) add-at
+      ∙ sym (add-rows (codingAt B (8 * i + j)) (codingAt B (8 * suc i + j)) h j k l m m'
+      (before (8 * i + j) (omega arith)) (before (8 * suc i + j) (omega arith)) hk hl hm
+      (keyedBy (inverted 32 B) (16 * p) k) (keyedBy (inverted 32 B) (16 * p + 128) l) entry
+      (λ v hv. ap (λ (y : ℕ). bitXor y k) (inverse-at 32 B (16 * p + v) (8 * i + j) v (omega arith) hv (omega arith)))
+      (λ v hv. ap (λ (y : ℕ). bitXor y l) (inverse-at 32 B (16 * p + 128 + v) (8 * suc i + j) v (omega arith) hv (omega arith)))
+      same)
+
+module _ (B A R K : List ℕ) (ready : RoundReady B A R) where
+  add-is : (p : ℕ) → p < 24 → madeAdd (inverted 32 B) R K p ≡ addPart (codingsOf B A R) K p
+  unfolding madeAdd addPart addTable codingsOf
+  add-is p hp =
+      let e : 8 * (p / 8) + p % 8 ≡ p = omega arith in
+      let o : 384 + p ≡ 384 + (8 * (p / 8) + p % 8) = omega arith in
+      let n : 384 + (8 * (p / 8) + suc (p % 8)) ≡ 385 + p = omega arith in
+      ap (λ (m : ℕ). sumTable (tab 32 (sumEntries R p)) (tab 32 (summands (inverted 32 B) (16 * p) (halfByte (getD K (2 * (p / 8)) 0) (p % 8)) (getD R m 0)))
+      (tab 16 (keyedBy (inverted 32 B) (16 * p + 128) (halfByte (getD K (2 * (p / 8) + 1) 0) (p % 8))))) o
+      ∙ add-rows-are B R (ready .before) p (p / 8) (p % 8) (halfByte (getD K (2 * (p / 8)) 0) (p % 8)) (halfByte (getD K (2 * (p / 8) + 1) 0) (p % 8))
+      (getD R (384 + (8 * (p / 8) + p % 8)) 0) (getD R (384 + (8 * (p / 8) + suc (p % 8))) 0) (omega arith) (omega arith)
+      (half-lt (getD K (2 * (p / 8)) 0) (p % 8)) (half-lt (getD K (2 * (p / 8) + 1) 0) (p % 8))
+      (ready .masks (384 + (8 * (p / 8) + p % 8)) (omega arith) (omega arith)) e (sumEntries R p) (codingAt R (8 * (p / 8) + p % 8))
+      (λ v hv. ap₂ (λ (y z : ℕ). addEntry (p % 8) (codingAt R y) (getD R z 0) v) e n)
+
+  turn-is : (p : ℕ) → p < 24 → madeTurn (inverted 24 R) A p ≡ turnPart (codingsOf B A R) p
+  unfolding madeTurn turnPart turnTable codingsOf
+  turn-is p hp = go (p / 8) (p % 8) (omega arith) (omega arith) (omega arith)
+    where
+      go : (i j : ℕ) → i < 3 → j < 8 → 8 * i + j ≡ p
+          → sumTable (drop (16 * p) A) (tab 16 (upperParts (inverted 24 R) (16 * (8 * i + upper i j)) i)) (tab 16 (lowerParts (inverted 24 R) (16 * (8 * i + lower i j)) i))
+          ≡ tab 256 (turnTable (codingsOf B A R) i j)
+      go i j hi hj e =
+          let hu = upper-lt i j in
+          let hl = lower-lt i j hj in
+          let u : ℕ → ℕ = λ x. getD (inverted 24 R) (16 * (8 * i + upper i j) + x) 0 in
+          let v : ℕ → ℕ = λ x. getD (inverted 24 R) (16 * (8 * i + lower i j) + x) 0 in
+          sum-table-is (drop (16 * p) A) 16 (upperParts (inverted 24 R) (16 * (8 * i + upper i j)) i) (lowerParts (inverted 24 R) (16 * (8 * i + lower i j)) i)
+          (λ x q. codingAt A (8 * i + j) (turned i (u x) (v q))) (λ x q hx hq.
+          let w = parts-turn i (u x) (v q) (inverse-below 24 R (ready .middles) (16 * (8 * i + lower i j) + q)) in
+          getD-drop (16 * p) A (upperPart i (u x) + lowerPart i (v q)) 0
+          ∙ ap₂ (λ (y z : ℕ). getD A (16 * y + z) 0) (sym e) w)
+          ∙ sym (turn-rows (codingAt R (8 * i + upper i j)) (codingAt R (8 * i + lower i j)) (codingAt A (8 * i + j)) u v
+          (λ x hx. inverse-at 24 R (16 * (8 * i + upper i j) + x) (8 * i + upper i j) x (omega arith) hx refl)
+          (λ x hx. inverse-at 24 R (16 * (8 * i + lower i j) + x) (8 * i + lower i j) x (omega arith) hx refl) i)
+
+  pub round-is : chunks 24 (madeAdd (inverted 32 B) R K) ++ chunks 24 (madeTurn (inverted 24 R) A) ≡ roundPart (codingsOf B A R) K
+  unfolding roundPart
+  round-is =
+      ap₂ {C = List ℕ} (λ (x y : List ℕ). x ++ y) (chunks-ext 24 (madeAdd (inverted 32 B) R K) (addPart (codingsOf B A R) K) add-is)
+      (chunks-ext 24 (madeTurn (inverted 24 R) A) (turnPart (codingsOf B A R)) turn-is)
+
+-- ---- a group
+
+module _ (S U F K : List ℕ) where
+  fold-is : (p : ℕ) → p < 32 → madeFold (inverted 32 S) (inverted 32 U) F K p ≡ foldPart (setOf S) (setOf U) (setOf F) K p
+  unfolding madeFold foldPart foldTable
+  fold-is p hp =
+      let e : 8 * (p / 8) + p % 8 ≡ p = omega arith in
+      let k = blockHalf K (p / 8) (p % 8) in
+      let u : ℕ → ℕ = λ x. getD (inverted 32 S) (16 * p + x) 0 in
+      let v : ℕ → ℕ = λ x. getD (inverted 32 U) (16 * p + x) 0 in
+      xor-table-is (drop (16 * p) F) 16 (keyedBy (inverted 32 S) (16 * p) k) (drop (16 * p) (inverted 32 U))
+      (λ x q. codingAt F (8 * (p / 8) + p % 8) (bitXor (bitXor (u x) (v q)) k)) (λ x q hx hq.
+      getD-drop (16 * p) F (bitXor (bitXor (u x) k) (getD (drop (16 * p) (inverted 32 U)) q 0)) 0
+      ∙ ap₂ (λ (y z : ℕ). getD F (16 * y + z) 0) (sym e)
+      (ap (bitXor (bitXor (u x) k)) (getD-drop (16 * p) (inverted 32 U) q 0) ∙ xor-assoc (u x) k (v q) ∙ ap (bitXor (u x)) (xor-comm k (v q)) ∙ sym (xor-assoc (u x) (v q) k)))
+      ∙ sym (fold-rows (codingAt S (8 * (p / 8) + p % 8)) (codingAt U (8 * (p / 8) + p % 8)) (codingAt F (8 * (p / 8) + p % 8)) u v
+      (λ x hx. inverse-at 32 S (16 * p + x) (8 * (p / 8) + p % 8) x (omega arith) hx (omega arith))
+      (λ x hx. inverse-at 32 U (16 * p + x) (8 * (p / 8) + p % 8) x (omega arith) hx (omega arith)) k)
+
+  pub group-is : chunks 32 (madeFold (inverted 32 S) (inverted 32 U) F K) ≡ groupPart (setOf S) (setOf U) (setOf F) K
+  unfolding groupPart
+  group-is = chunks-ext 32 (madeFold (inverted 32 S) (inverted 32 U) F K) (foldPart (setOf S) (setOf U) (setOf F) K) fold-is
+
+-- ---- a valid chain gives what its rounds are made from
+
+module _ (z : KeySize) (ch : List ℕ) (h : Chain z ch) where
+  sets-permute : (l : ℕ) → l ≤ rounds z → FirstPermutations 32 (drop (512 * suc l) ch)
+  sets-permute l hl k hk =
+      let e : 8 * (k / 8) + k % 8 ≡ k = omega arith in
+      let p = h .codings .sets l hl (k / 8) (k % 8) (omega arith) (omega arith) in
+      rw e at p
+
+  pub message-permutes : FirstPermutations 32 ch
+  message-permutes k hk =
+      let e : 8 * (k / 8) + k % 8 ≡ k = omega arith in
+      let p = h .codings .message (k / 8) (k % 8) (omega arith) (omega arith) in
+      rw e at p
+
+  middles-permute : (l : ℕ) → l < rounds z → FirstPermutations 24 (roundBytes (rounds z) ch l)
+  middles-permute l hl k hk =
+      let e : 8 * (k / 8) + k % 8 ≡ k = omega arith in
+      let p = h .codings .middles l (k / 8) (k % 8) hl (omega arith) (omega arith) in
+      rw e at p
+
+  masks-are : (l : ℕ) → l < rounds z → (k : ℕ) → 384 ≤ k → k < 408 → getD (roundBytes (rounds z) ch l) k 0 < 2
+  masks-are l hl k hk hk' =
+      let e : 384 + (8 * ((k - 384) / 8) + (k - 384) % 8) ≡ k = omega arith in
+      let p = h .masks .bits l ((k - 384) / 8) ((k - 384) % 8) hl (omega arith) (omega arith) in
+      rw e at p
+
+  module _ (l : ℕ) (B A R : List ℕ) (b a n : ℕ) (hl : l < rounds z) (eB : B ≡ drop b ch) (eA : A ≡ drop a ch) (eR : R ≡ drop n ch)
+      (eb : b ≡ 512 * suc l) (ea : a ≡ 512 * suc (suc l)) (en : n ≡ 512 * (rounds z + 2) + 408 * l) where
+    pub round-ready : RoundReady B A R
+    round-ready = record {
+      before = rw (eB, eb) (sets-permute l (omega arith));
+      middles = rw (eR, en) (middles-permute l hl);
+      masks = rw (eR, en) (masks-are l hl);
+      roomBefore = rw (eB, length-drop) (omega (arith, h .size));
+      roomAfter = rw (eA, length-drop) (omega (arith, h .size));
+      roomMiddles = rw (eR, length-drop) (omega (arith, h .size));
+    }
+
+    pub round-at-is : (K : List ℕ) → roundPart (codingsOf B A R) K ≡ roundPart (roundCodings (rounds z) ch l) K
+    unfolding codingsOf roundCodings
+    round-at-is K = rw (eB, eA, eR, eb, ea, en)
+
+-- ---- parts that are put together
+
+-- an array that holds codings inverted
+pub inverse-array : (n : ℕ) (s t : List ℕ) → t ≡ inverted n s → FirstPermutations n s → (length t ≡ n * 16) × Below 16 t
+inverse-array n s t e h = (ap length e ∙ length-inverted n s, rw e (inverse-below n s h))
+
+pub adds-length : (x s R K : List ℕ) → x ≡ chunks 24 (madeAdd s R K) → length x ≡ 12288
+adds-length x s R K e = ap length e ∙ length-chunks (madeAdd s R K) 512 (length-add s R K) 24
+
+pub turns-length : (x s S : List ℕ) → x ≡ chunks 24 (madeTurn s S) → length x ≡ 6144
+turns-length x s S e = ap length e ∙ length-chunks (madeTurn s S) 256 (length-turn s S) 24
+
+-- x written in front of out, and y behind it
+module _ (x y out : List ℕ) (m n : ℕ) (room : length out ≡ m + n) (lx : length x ≡ m) where
+  pub second-length : length (take n (drop m (x ++ drop m out))) ≡ n
+  second-length =
+      rw (drop-at x (drop m out) m lx) (length-take-le n (drop m out) (rw (length-drop m out) (omega arith)))
+
+  pub two-joined : take m (x ++ drop m out) ++ (y ++ drop n (drop m (x ++ drop m out))) ≡ x ++ y
+  two-joined = grown-part x y out m n lx ∙ grown-whole (x ++ y) out (m + n) (le-of-eq room)
+
+  pub two-length : length y ≡ n → length (take m (x ++ drop m out) ++ (y ++ drop n (drop m (x ++ drop m out)))) ≡ length out
+  two-length ly = ap length two-joined ∙ length-append x y ∙ rw (lx, ly) (sym room)
+
+pub round-done : (B A R K s m x y : List ℕ) → RoundReady B A R → s ≡ inverted 32 B → m ≡ inverted 24 R → x ≡ chunks 24 (madeAdd s R K)
+    → y ≡ chunks 24 (madeTurn m A) → x ++ y ≡ roundPart (codingsOf B A R) K
+round-done B A R K s m x y h es em ex ey = rw (ex, ey, es, em) (round-is B A R K h)

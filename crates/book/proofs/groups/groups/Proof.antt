@@ -1,0 +1,53 @@
+-- `groups::groups` meets its contract. Assumes nothing.
+use mathlib.Core.Path.{_∙_}
+use native.Mathlib.Omega.{arith}
+use borrow.Author.Needs.{needs}
+use lib.Seq.{length-take-le}
+use Rattle.book.proofs.BuildLaws.{inverse-array}
+use Rattle.book.proofs.GroupLaws.{middle-length, last-length, three-joined, three-length, folds-length, groups-done}
+use Rattle.book.proofs.groups.groups.Statement.{statement}
+use Rattle.book.proofs.groups.groups.Tie as tie
+
+fold-tables-requires : tie.Need-fold-tables-requires
+fold-tables-requires c κs =
+    let e = c .before .before .before .before .before .before .before .before .before .before .before .before .before .before .before in
+    let s = inverse-array 32 _ _ (c .before .before .before .before .before .before .before .before .before .invert .ensures) (e .pre .0) in
+    let u = inverse-array 32 _ _ (c .before .before .before .before .before .before .invert2 .ensures) (e .pre .2) in
+    (s .0, s .1, u .0, u .1, e .pre .4, length-take-le 8192 (e .args .out .now) (omega arith))
+
+fold-tables-requires-2 : tie.Need-fold-tables-requires-2
+fold-tables-requires-2 c κs =
+    let e = c .before .before .before .before .before .before .before .before .before .before .before .before .before .before .before .before .before .before .before .before .before in
+    let s = inverse-array 32 _ _ (c .before .before .before .before .before .before .before .before .before .before .before .before .before .before .before .invert .ensures) (e .pre .0) in
+    let u = inverse-array 32 _ _ (c .before .before .before .before .before .before .before .before .before .before .before .before .invert2 .ensures) (e .pre .2) in
+    (s .0, s .1, u .0, u .1, e .pre .4, middle-length (c .before .before .before .before .before .fold-tables .last .1 .1 .1 .1 .0) (e .args .out .now) (e .args .out .now) (folds-length _ _ _ _ _ (c .before .before .before .before .before .fold-tables .ensures)) (e .pre .5))
+
+fold-tables-requires-3 : tie.Need-fold-tables-requires-3
+fold-tables-requires-3 c κs =
+    let e = c .before .before .before .before .before .before .before .before .before .before .before .before .before .before .before .before .before .before .before .before .before .before .before .before .before .before .before in
+    let s = inverse-array 32 _ _ (c .before .before .before .before .before .before .before .before .before .before .before .before .before .before .before .before .before .before .before .before .before .invert .ensures) (e .pre .0) in
+    let u = inverse-array 32 _ _ (c .before .before .before .before .before .before .before .before .before .before .before .before .before .before .before .before .before .before .invert2 .ensures) (e .pre .2) in (
+      s .0,
+      s .1,
+      u .0,
+      u .1,
+      e .pre .4,
+      last-length (c .before .before .before .before .before .before .before .before .before .before .before .fold-tables .last .1 .1 .1 .1 .0) (c .before .before .before .before .before .fold-tables2 .last .1 .1 .1 .1 .0) (e .args .out .now)
+          (folds-length _ _ _ _ _ (c .before .before .before .before .before .before .before .before .before .before .before .fold-tables .ensures)) (e .pre .5) (e .args .out .now) (folds-length _ _ _ _ _ (c .before .before .before .before .before .fold-tables2 .ensures)),
+    )
+
+same-length : tie.Need-same-length
+same-length c =
+    let e = c .before .before .before .before .before .before .before .before .before .before .before .before .before .before .before .before .before .before .before .before .before .before .before .before .before .before .before .before .before .before in
+    three-length (c .before .before .before .before .before .before .before .before .before .before .before .before .before .before .fold-tables .last .1 .1 .1 .1 .0) (c .before .before .before .before .before .before .before .before .fold-tables2 .last .1 .1 .1 .1 .0) (e .args .out .now)
+    (folds-length _ _ _ _ _ (c .before .before .before .before .before .before .before .before .before .before .before .before .before .before .fold-tables .ensures)) (e .pre .5) (c .before .before .fold-tables3 .last .1 .1 .1 .1 .0) (folds-length _ _ _ _ _ (c .before .before .before .before .before .before .before .before .fold-tables2 .ensures)) (folds-length _ _ _ _ _ (c .before .before .fold-tables3 .ensures))
+
+returns : tie.Need-returns
+returns c =
+    let e = c .before .before .before .before .before .before .before .before .before .before .before .before .before .before .before .before .before .before .before .before .before .before .before .before .before .before .before .before .before .before in
+    three-joined (c .before .before .before .before .before .before .before .before .before .before .before .before .before .before .fold-tables .last .1 .1 .1 .1 .0) (c .before .before .before .before .before .before .before .before .fold-tables2 .last .1 .1 .1 .1 .0) (e .args .out .now)
+    (folds-length _ _ _ _ _ (c .before .before .before .before .before .before .before .before .before .before .before .before .before .before .fold-tables .ensures)) (e .pre .5) (c .before .before .fold-tables3 .last .1 .1 .1 .1 .0) (folds-length _ _ _ _ _ (c .before .before .before .before .before .before .before .before .fold-tables2 .ensures))
+    ∙ groups-done _ _ _ _ _ _ _ _ _ _ (c .before .before .before .before .before .before .before .before .before .before .before .before .before .before .before .before .before .before .before .before .before .before .before .before .invert .ensures) (c .before .before .before .before .before .before .before .before .before .before .before .before .before .before .before .before .before .before .before .before .before .invert2 .ensures) (c .before .before .before .before .before .before .before .before .before .before .before .before .before .before .fold-tables .ensures) (c .before .before .before .before .before .before .before .before .fold-tables2 .ensures) (c .before .before .fold-tables3 .ensures)
+
+pub groups-spec : {M : Type 1} → statement M
+groups-spec = tie.close (tie.spec (λ c. search needs) (λ c κs. search needs) (λ c. search needs) (λ c κs. search needs) (λ c. search needs) (λ c. search needs) (λ c. search needs) (λ c. search needs) (λ c. search needs) fold-tables-requires (λ c. search needs) (λ c. search needs) (λ c. search needs) (λ c. search needs) (λ c. search needs) (λ c. search needs) fold-tables-requires-2 (λ c. search needs) (λ c. search needs) (λ c. search needs) (λ c. search needs) (λ c. search needs) (λ c. search needs) (λ c. search needs) fold-tables-requires-3 same-length returns)

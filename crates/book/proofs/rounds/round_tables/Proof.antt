@@ -1,0 +1,34 @@
+-- `rounds::round_tables` meets its contract. Assumes nothing.
+use mathlib.Core.Path.{_∙_}
+use native.Mathlib.Omega.{arith}
+use borrow.Author.Needs.{needs}
+use lib.Seq.{length-take-le}
+use Rattle.book.proofs.BuildLaws.{inverse-array, round-bytes, adds-length, turns-length, second-length, two-joined, two-length, round-done}
+use Rattle.book.proofs.rounds.round_tables.Statement.{statement}
+use Rattle.book.proofs.rounds.round_tables.Tie as tie
+
+add-tables-requires : tie.Need-add-tables-requires
+add-tables-requires c κs =
+    let e = c .before .before .before .before .before .before .before .before .before .before .before .before in
+    let s = inverse-array 32 _ _ (c .before .before .before .before .before .before .invert .ensures) (e .pre .0 .before) in
+    (s .0, s .1, round-bytes _ _ _ (e .pre .0), length-take-le 12288 (e .args .out .now) (omega arith))
+
+turn-tables-requires : tie.Need-turn-tables-requires
+turn-tables-requires c κs =
+    let e = c .before .before .before .before .before .before .before .before .before .before .before .before .before .before .before .before .before in
+    let s = inverse-array 24 _ _ (c .before .before .before .before .before .before .before .before .invert2 .ensures) (e .pre .0 .middles) in
+    (s .0, s .1, omega (arith, e .pre .0 .roomAfter), second-length (c .before .before .before .before .add-tables .last .1 .1 .1 .0) (e .args .out .now) (e .args .out .now) 12288 6144 (e .pre .1) (adds-length _ _ _ _ (c .before .before .before .before .add-tables .ensures)))
+
+same-length : tie.Need-same-length
+same-length c =
+    let e = c .before .before .before .before .before .before .before .before .before .before .before .before .before .before .before .before .before .before .before .before in
+    two-length (c .before .before .before .before .before .before .before .add-tables .last .1 .1 .1 .0) (c .before .before .turn-tables .last .1 .1 .0) (e .args .out .now) 12288 6144 (e .pre .1) (adds-length _ _ _ _ (c .before .before .before .before .before .before .before .add-tables .ensures)) (turns-length _ _ _ (c .before .before .turn-tables .ensures))
+
+returns : tie.Need-returns
+returns c =
+    let e = c .before .before .before .before .before .before .before .before .before .before .before .before .before .before .before .before .before .before .before .before in
+    two-joined (c .before .before .before .before .before .before .before .add-tables .last .1 .1 .1 .0) (c .before .before .turn-tables .last .1 .1 .0) (e .args .out .now) 12288 6144 (e .pre .1) (adds-length _ _ _ _ (c .before .before .before .before .before .before .before .add-tables .ensures))
+    ∙ round-done _ _ _ _ _ _ _ _ (e .pre .0) (c .before .before .before .before .before .before .before .before .before .before .before .before .before .before .invert .ensures) (c .before .before .before .before .before .before .before .before .before .before .before .invert2 .ensures) (c .before .before .before .before .before .before .before .add-tables .ensures) (c .before .before .turn-tables .ensures)
+
+pub round-tables-spec : {M : Type 1} → statement M
+round-tables-spec = tie.close (tie.spec (λ c. search needs) (λ c κs. search needs) (λ c. search needs) (λ c κs. search needs) (λ c. search needs) (λ c. search needs) (λ c. search needs) (λ c. search needs) add-tables-requires (λ c. search needs) (λ c. search needs) (λ c. search needs) (λ c. search needs) turn-tables-requires same-length returns)

@@ -1,0 +1,33 @@
+-- What the builder answers (document 01, "Book" and "Refusals from the input"): the number of a refusal and the buffer as it
+-- was, or 0 and what was asked for, then what the buffer held before.
+-- Assumes nothing.
+use mathlib.Core.Bool.{Bool}
+use mathlib.Core.List.{List, [], _∷_, _++_}
+use Prim.Native.Nat.{ℕ, _%_}
+use lib.Dec.{ltb}
+use lib.ListN.{length, drop}
+use Rattle.lists.specs.Refusals.{first}
+use Rattle.cipher.specs.KeySize.{rounds, bookLength}
+use Rattle.cipher.specs.Schedule.{schedule}
+use Rattle.cipher.specs.Chain.{chainTests}
+use Rattle.cipher.specs.Book.{bookOf, bookRound, roundLength}
+use Rattle.cipher.specs.Answers.{keyTests, keySize}
+use Rattle.cipher.specs.declared.size.KeySize.{KeySize}
+
+-- refusal 9: a buffer shorter than the n bytes that are written
+abbrev pub roomTests : ℕ → List ℕ → List (Bool × ℕ)
+roomTests n out = (ltb (length out) n, 9) ∷ []
+
+-- the part that a key of size z and a chain make, of len z bytes, into the front of out
+unfoldable pub builtInto : List ℕ → List ℕ → List ℕ → (KeySize → ℕ) → (KeySize → List ℕ) → ℕ × List ℕ
+builtInto key ch out len part =
+    first (keyTests key ++ (chainTests (keySize key) ch ++ roomTests (len (keySize key)) out)) (λ n. (n, out))
+    (0, part (keySize key) ++ drop (len (keySize key)) out)
+
+-- the book
+abbrev pub buildAnswer : List ℕ → List ℕ → List ℕ → ℕ × List ℕ
+buildAnswer key ch out = builtInto key ch out bookLength (λ z. bookOf (rounds z) (schedule z key) ch)
+
+-- the tables of round l, counted round
+abbrev pub roundAnswer : List ℕ → List ℕ → ℕ → List ℕ → ℕ × List ℕ
+roundAnswer key ch l out = builtInto key ch out (λ z. roundLength) (λ z. bookRound (rounds z) (schedule z key) ch (l % rounds z))
