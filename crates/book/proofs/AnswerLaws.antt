@@ -83,6 +83,12 @@ module _ (key ch out : List ℕ) (len : KeySize → ℕ) (part : KeySize → Lis
           ap (λ (y : List ℕ). (0, y ++ drop (len z) out)) p
           ∙ sym (taken ∙ first-pass (ltb (length out) (len z)) 9 [] (λ n. (n, out)) (0, part z ++ drop (len z) out) (le-ltb (length out) (len z) h))
 
+      -- the same where n is written for the length
+      pub built-front : len z ≤ length out → (n : ℕ) → n ≡ len z → (x : List ℕ) → x ≡ part z → (0, x ++ drop (n - 0) out) ≡ builtInto key ch out len part
+      built-front h n e x p =
+          let d : n - 0 ≡ len z = omega arith in
+          ap (λ (k : ℕ). (0, x ++ drop k out)) d ∙ built-done h x p
+
 -- the front of a buffer, as it is lent, and what is behind it
 pub front-length : (n m : ℕ) (out : List ℕ) → n ≡ m → m ≤ length out → length (take (n - 0) out) ≡ m
 front-length n m out e h =

@@ -193,7 +193,7 @@ module _ (S U F K : List ℕ) where
 -- ---- a valid chain gives what its rounds are made from
 
 module _ (z : KeySize) (ch : List ℕ) (h : Chain z ch) where
-  sets-permute : (l : ℕ) → l ≤ rounds z → FirstPermutations 32 (drop (512 * suc l) ch)
+  pub sets-permute : (l : ℕ) → l ≤ rounds z → FirstPermutations 32 (drop (512 * suc l) ch)
   sets-permute l hl k hk =
       let e : 8 * (k / 8) + k % 8 ≡ k = omega arith in
       let p = h .codings .sets l hl (k / 8) (k % 8) (omega arith) (omega arith) in

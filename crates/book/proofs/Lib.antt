@@ -3,3 +3,4 @@ pub mod MadeLaws
 pub mod BuildLaws
 pub mod GroupLaws
 pub mod AnswerLaws
+pub mod WholeLaws

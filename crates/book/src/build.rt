@@ -1,17 +1,67 @@
-// Building the tables of one round of a book from a key and a chain (document 01, "Book").
+// Building a book, or the tables of one round of it, from a key and a chain (document 01, "Book").
 // Refusals 1 to 5 are those of key and chain; 9 is a buffer shorter than what is written.
 ghost use mathlib.Core.Path.{_≡_};
+ghost use lib.ListN.{length};
+ghost use Rattle.cipher.specs.KeySize as S;
 ghost use Rattle.cipher.specs.Refusal.{outcomeOf};
-ghost use Rattle.book.specs.Answers.{roundAnswer};
+ghost use Rattle.cipher.specs.Chain.{Chain};
+ghost use Rattle.cipher.specs.Book.{bookOf};
+ghost use Rattle.book.specs.Answers.{buildAnswer, roundAnswer};
+use crate::groups::groups;
+use crate::groups::start;
 use crate::rounds::round_at;
+use crate::rounds::round_parts;
 use cipher::chain::check_sized;
+use cipher::cmac::subkeys;
 use cipher::refusal::Outcome;
 use cipher::refusal::Refusal;
 use cipher::schedule::schedule;
 use cipher::size::KeySize;
 use cipher::size::SizeFound;
 
-// The tables of round l of the book of a key and a chain, l taken mod its rounds, into the front of out.
+// Where the rounds of a book begin.
+const ROUNDS: usize = KeySize::START + 3 * KeySize::GROUP;
+
+// The book of a valid chain, into a buffer of its length.
+fn fill(size: KeySize, chain: &[u8], rows: [[u32; 6]; 32], out: &mut [u8])
+    requires { ⌜ Chain size (now chain) × (length (now out) ≡ S.bookLength size) ⌝ }
+    ensures { λ _. ⌜ now (out .exit) ≡ bookOf (S.rounds size) rows (now (chain .entry)) ⌝ }
+{
+    let last = KeySize::SET * (size.rounds() + 1);
+    let keys = subkeys(rows, size);
+    let end = size.book_len();
+    start(&chain[last..], &mut out[0..KeySize::START]);
+    groups(
+        &chain[last..],
+        chain,
+        &chain[KeySize::SET..],
+        keys,
+        &mut out[KeySize::START..ROUNDS],
+    );
+    round_parts(size, chain, rows, &mut out[ROUNDS..end]);
+}
+
+// The book of a key and a chain, into the front of out.
+pub fn build(key: &[u8], chain: &[u8], out: &mut [u8]) -> Outcome
+    ensures { λ r. ⌜ (outcomeOf r, now (out .exit)) ≡ buildAnswer (now (key .entry)) (now (chain .entry)) (now (out .entry)) ⌝ }
+{
+    let SizeFound::Found(size) = KeySize::of_key_len(key.len()) else {
+        return Outcome::Refused(Refusal::KeyLength);
+    };
+    let checked = check_sized(size, chain);
+    if checked.number() != 0 {
+        return checked;
+    }
+    let end = size.book_len();
+    if out.len() < end {
+        return Outcome::Refused(Refusal::ShortBuffer);
+    }
+    let rows = schedule(size, key);
+    fill(size, chain, rows, &mut out[0..end]);
+    Outcome::Done
+}
+
+// The tables of round l of that book, l taken mod its rounds, into the front of out.
 pub fn build_round(key: &[u8], chain: &[u8], l: usize, out: &mut [u8]) -> Outcome
     ensures { λ r. ⌜ (outcomeOf r, now (out .exit)) ≡ roundAnswer (now (key .entry)) (now (chain .entry)) l (now (out .entry)) ⌝ }
 {

@@ -1,0 +1,66 @@
+-- `build::fill` meets its contract. Assumes nothing.
+use mathlib.Core.Path.{_≡_, sym, ap, _∙_}
+use Prim.Native.Nat.{ℕ, _+_, _-_, _*_}
+use native.Mathlib.Omega.{arith}
+use borrow.Author.Needs.{needs}
+use lib.ListN.{length, length-drop}
+use lib.Seq.{length-take-le}
+use Rattle.lists.proofs.PartLaws.{part-end}
+use Rattle.cipher.specs.KeySize.{rounds}
+use Rattle.book.specs.Made.{threeKeys}
+use Rattle.book.proofs.BuildLaws.{message-permutes}
+use Rattle.book.proofs.WholeLaws.{last-set, start-length, groups-length, groups-room, after-length, rounds-room, all-joined, all-length, rounds-length, behind, book-is}
+use Rattle.book.proofs.build.fill.Statement.{statement}
+use Rattle.book.proofs.build.fill.Tie as tie
+
+start-requires : tie.Need-start-requires
+start-requires c κs =
+    let e = c .before .before .before .before .before .before .before in
+    let ch = e .args .chain .now in
+    let q = c .before .before .before .before .rounds .result in
+    let s = last-set (e .args .size) ch _ q (e .pre .0) (c .before .before .before .before .rounds .ensures) (part-end ch (512 * (q + 1))) in
+    (s .0, s .1, length-take-le 16 (e .args .out .now) (omega arith))
+
+groups-requires : tie.Need-groups-requires
+groups-requires c κs =
+    let e = c .before .before .before .before .before .before .before .before .before .before .before .before .before in
+    let ch = e .args .chain .now in
+    let q = c .before .before .before .before .before .before .before .before .before .before .rounds .result in
+    let s = last-set (e .args .size) ch _ q (e .pre .0) (c .before .before .before .before .before .before .before .before .before .before .rounds .ensures) (part-end ch (512 * (q + 1))) in (
+      s .0,
+      s .1,
+      message-permutes (e .args .size) ch (e .pre .0),
+      omega (arith, e .pre .0 .size),
+      behind ch (omega (arith, e .pre .0 .size)),
+      groups-room (c .before .before .before .before .before .start .last .1 .0) (e .args .out .now) _ (rounds (e .args .size)) (start-length _ _ (c .before .before .before .before .before .start .ensures)) (e .pre .1) (c .before .before .before .before .before .before .before .before .book-len .ensures),
+    )
+
+part-round-parts-end : tie.Need-part-round-parts-end
+part-round-parts-end c =
+    let e = c .before .before .before .before .before .before .before .before .before .before .before .before .before .before .before .before in
+    let n = c .before .before .before .before .before .before .before .before .before .before .before .book-len .ensures in
+    omega (arith, n, after-length (c .before .before .before .before .before .before .before .before .start .last .1 .0) (e .args .out .now) (c .before .before .before .before .before .before .before .before .before .before .before .book-len .result) (rounds (e .args .size)) (start-length _ _ (c .before .before .before .before .before .before .before .before .start .ensures)) (e .pre .1) n (c .before .before .groups .last .1 .1 .1 .1 .0) (groups-length _ _ _ _ (threeKeys _ _) (c .before .before .groups .ensures)))
+
+round-parts-requires : tie.Need-round-parts-requires
+round-parts-requires c κs =
+    let e = c .before .before .before .before .before .before .before .before .before .before .before .before .before .before .before .before .before in
+    (e .pre .0, rounds-room (c .before .before .before .before .before .before .before .before .before .start .last .1 .0) (e .args .out .now) (c .before .before .before .before .before .before .before .before .before .before .before .before .book-len .result) (rounds (e .args .size)) (start-length _ _ (c .before .before .before .before .before .before .before .before .before .start .ensures)) (e .pre .1) (c .before .before .before .before .before .before .before .before .before .before .before .before .book-len .ensures) (c .before .before .before .groups .last .1 .1 .1 .1 .0) (groups-length _ _ _ _ (threeKeys _ _) (c .before .before .before .groups .ensures)))
+
+same-length : tie.Need-same-length
+same-length c =
+    let e = c .before .before .before .before .before .before .before .before .before .before .before .before .before .before .before .before .before .before .before .before in
+    all-length (c .before .before .before .before .before .before .before .before .before .before .before .before .start .last .1 .0) (e .args .out .now) (c .before .before .before .before .before .before .before .before .before .before .before .before .before .before .before .book-len .result) (rounds (e .args .size)) (start-length _ _ (c .before .before .before .before .before .before .before .before .before .before .before .before .start .ensures)) (e .pre .1) (c .before .before .before .before .before .before .before .before .before .before .before .before .before .before .before .book-len .ensures) (c .before .before .before .before .before .before .groups .last .1 .1 .1 .1 .0) (groups-length _ _ _ _ (threeKeys _ _) (c .before .before .before .before .before .before .groups .ensures))
+    (c .before .before .round-parts .last .1 .1 .1 .0) (rounds-length _ (rounds (e .args .size)) _ _ (c .before .before .round-parts .ensures))
+
+returns : tie.Need-returns
+returns c =
+    let e = c .before .before .before .before .before .before .before .before .before .before .before .before .before .before .before .before .before .before .before .before in
+    let ch = e .args .chain .now in
+    let q = c .before .before .before .before .before .before .before .before .before .before .before .before .before .before .before .before .before .rounds .result in
+    all-joined (c .before .before .before .before .before .before .before .before .before .before .before .before .start .last .1 .0) (e .args .out .now) (c .before .before .before .before .before .before .before .before .before .before .before .before .before .before .before .book-len .result) (rounds (e .args .size)) (start-length _ _ (c .before .before .before .before .before .before .before .before .before .before .before .before .start .ensures)) (e .pre .1) (c .before .before .before .before .before .before .before .before .before .before .before .before .before .before .before .book-len .ensures) (c .before .before .before .before .before .before .groups .last .1 .1 .1 .1 .0) (groups-length _ _ _ _ (threeKeys _ _) (c .before .before .before .before .before .before .groups .ensures))
+    (c .before .before .round-parts .last .1 .1 .1 .0)
+    ∙ book-is (rounds (e .args .size)) q _ ch _ _ _ _ _ _ _ (c .before .before .before .before .before .before .before .before .before .before .before .before .before .before .before .before .before .rounds .ensures) (part-end ch (512 * (q + 1))) (part-end ch 512)
+    (c .before .before .before .before .before .before .before .before .before .before .before .before .before .before .before .before .subkeys .ensures .0) (c .before .before .before .before .before .before .before .before .before .before .before .before .before .before .before .before .subkeys .ensures .1) (c .before .before .before .before .before .before .before .before .before .before .before .before .start .ensures) (c .before .before .before .before .before .before .groups .ensures) (c .before .before .round-parts .ensures)
+
+pub fill-spec : {M : Type 1} → statement M
+fill-spec = tie.close (tie.spec (λ c κs. search needs) (λ c. search needs) (λ c. search needs) (λ c κs. search needs) (λ c κs. search needs) (λ c. search needs) (λ c. search needs) (λ c. search needs) (λ c. search needs) (λ c. search needs) (λ c. search needs) start-requires (λ c. search needs) (λ c. search needs) (λ c. search needs) (λ c. search needs) (λ c. search needs) (λ c. search needs) (λ c. search needs) (λ c. search needs) (λ c. search needs) groups-requires (λ c. search needs) (λ c. search needs) part-round-parts-end round-parts-requires same-length returns)
