@@ -28,6 +28,7 @@ extern "C" {
 #define BOWLINETTE_REFUSED_WORD_RULE 4      /* word 3 of a set differs from word 0 of the set before */
 #define BOWLINETTE_REFUSED_MASK 5           /* a mask is over 1, or not 0 for half byte 0 */
 #define BOWLINETTE_REFUSED_BLOCK_LENGTH 7   /* the block is not of 16 bytes */
+#define BOWLINETTE_REFUSED_ROOM 9           /* out is shorter than what would be written */
 
 /* A block, in bytes, and the round keys of one round, in 32-bit words. */
 #define BOWLINETTE_BLOCK_LENGTH 16
@@ -39,6 +40,9 @@ extern "C" {
  */
 #define BOWLINETTE_CODING_LENGTH 16
 #define BOWLINETTE_SET_LENGTH 512
+
+/* The tables of one round of a book, in bytes. */
+#define BOWLINETTE_ROUND_LENGTH 18432
 
 /* The three key sizes: the key in bytes, its rounds, its chain and its book in bytes. */
 #define BOWLINETTE_KEY_LENGTH_128 16
@@ -104,6 +108,25 @@ uint32_t bowlinette_check_set(const uint8_t *set, size_t set_length);
  */
 uint32_t bowlinette_check_chain(size_t key_length,
                                 const uint8_t *chain, size_t chain_length);
+
+/*
+ * Builds the book of a key and a chain and writes it to the front of out, which may be longer: the
+ * bytes behind the book stay as they were. The chain and the book have the lengths above.
+ * Refuses 1 (key length), 2 to 5 (the chain), then 9 (out shorter than the book).
+ */
+uint32_t bowlinette_build(const uint8_t *key, size_t key_length,
+                          const uint8_t *chain, size_t chain_length,
+                          uint8_t *out, size_t out_length);
+
+/*
+ * Builds the tables of one round of that book alone, 18,432 bytes, and writes them to the front of
+ * out. Rounds count from 0; the number given is taken mod the key's rounds.
+ * Refuses 1 (key length), 2 to 5 (the chain), then 9 (out shorter than the tables).
+ */
+uint32_t bowlinette_build_round(const uint8_t *key, size_t key_length,
+                                const uint8_t *chain, size_t chain_length,
+                                size_t round,
+                                uint8_t *out, size_t out_length);
 
 #ifdef __cplusplus
 }

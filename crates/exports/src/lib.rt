@@ -4,6 +4,7 @@ ghost use mathlib.Core.Path.{_≡_};
 ghost use Rattle.exports.specs.Chain.{chainAnswer};
 ghost use Rattle.cipher.specs.Answers.{blockTold, encipherAnswer, decipherAnswer, roundsAnswer, rowAnswer, setChecked, chainChecked};
 ghost use Rattle.exports.specs.Into.{into};
+ghost use Rattle.book.specs.Answers.{buildAnswer, roundAnswer};
 use cipher::lea::BlockAnswer;
 use cipher::refusal::Refusal;
 use cipher::size::KeySize;
@@ -80,6 +81,29 @@ pub extern "C" fn bowlinette_check_chain(n: usize, chain: &[u8]) -> u32
     ensures { λ r. ⌜ r ≡ chainChecked n (now (chain .entry)) ⌝ }
 {
     cipher::chain::check_chain(n, chain).number()
+}
+
+// The book of a key and a chain, into the front of out.
+#[no_mangle]
+pub extern "C" fn bowlinette_build(key: &[u8], chain: &[u8], out: &mut [u8]) -> u32
+    ensures { λ r. ⌜ (r, now (out .exit)) ≡ buildAnswer (now (key .entry)) (now (chain .entry)) (now (out .entry)) ⌝ }
+{
+    let outcome = book::build::build(key, chain, out);
+    outcome.number()
+}
+
+// The tables of one round of that book, the round taken mod its rounds, into the front of out.
+#[no_mangle]
+pub extern "C" fn bowlinette_build_round(
+    key: &[u8],
+    chain: &[u8],
+    round: usize,
+    out: &mut [u8],
+) -> u32
+    ensures { λ r. ⌜ (r, now (out .exit)) ≡ roundAnswer (now (key .entry)) (now (chain .entry)) round (now (out .entry)) ⌝ }
+{
+    let outcome = book::build::build_round(key, chain, round, out);
+    outcome.number()
 }
 
 // For the benchmark: the chaining value of CMAC after the whole blocks of a text, into out.
