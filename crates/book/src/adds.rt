@@ -6,11 +6,9 @@ ghost use lib.ListN.{length, getD};
 ghost use Rattle.lists.specs.Tabulation.{tab, chunks};
 ghost use Rattle.lists.specs.Blocks.{Below};
 ghost use Rattle.lists.specs.HalfBytes.{halfByte};
-ghost use Rattle.cipher.specs.Coding.{codingAt};
-ghost use Rattle.cipher.specs.Tables.{carryHeld, addEntry};
+ghost use Rattle.cipher.specs.Tables.{carryHeld};
 ghost use Rattle.book.specs.Made.{RoundBytes, keyedBy, summands, sumEntries, madeAdd};
 use crate::rows::sum_table;
-use cipher::invert::wide;
 use cipher::size::KeySize;
 
 // Where the masks (01's term) stand in the bytes that a chain has for a round.
