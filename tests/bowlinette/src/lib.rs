@@ -44,6 +44,23 @@ mod c {
             chain: *const u8,
             chain_length: usize,
         ) -> u32;
+        pub fn bowlinette_build(
+            key: *const u8,
+            key_length: usize,
+            chain: *const u8,
+            chain_length: usize,
+            out: *mut u8,
+            out_length: usize,
+        ) -> u32;
+        pub fn bowlinette_build_round(
+            key: *const u8,
+            key_length: usize,
+            chain: *const u8,
+            chain_length: usize,
+            round: usize,
+            out: *mut u8,
+            out_length: usize,
+        ) -> u32;
     }
 }
 
@@ -124,4 +141,35 @@ pub fn check_set(set: &[u8]) -> u32 {
 #[inline]
 pub fn check_chain(key_length: usize, chain: &[u8]) -> u32 {
     unsafe { c::bowlinette_check_chain(key_length, chain.as_ptr(), chain.len()) }
+}
+
+/// The book of a key and a chain, to the front of out.
+#[inline]
+pub fn build(key: &[u8], chain: &[u8], out: &mut [u8]) -> u32 {
+    unsafe {
+        c::bowlinette_build(
+            key.as_ptr(),
+            key.len(),
+            chain.as_ptr(),
+            chain.len(),
+            out.as_mut_ptr(),
+            out.len(),
+        )
+    }
+}
+
+/// The tables of one round of the book, to the front of out.
+#[inline]
+pub fn build_round(key: &[u8], chain: &[u8], round: usize, out: &mut [u8]) -> u32 {
+    unsafe {
+        c::bowlinette_build_round(
+            key.as_ptr(),
+            key.len(),
+            chain.as_ptr(),
+            chain.len(),
+            round,
+            out.as_mut_ptr(),
+            out.len(),
+        )
+    }
 }

@@ -1,0 +1,212 @@
+//! Whole books and single rounds of them, on both versions: every byte, each refusal, and what
+//! stays as it was.
+
+#[path = "shared/chains.rs"]
+mod chains;
+#[path = "shared/random.rs"]
+mod random;
+
+use random::Random;
+use reference::book::{self, ADD, FOLD, GROUP, ROUND, START};
+use reference::chain::{self, CODING, MIDDLES, SET, WORD};
+use reference::{lea, Size};
+
+/// A byte that a buffer holds before a call.
+const FILL: u8 = 0xa5;
+
+/// What a call is given beside its buffer.
+#[derive(Clone)]
+struct Case {
+    size: Size,
+    key: Vec<u8>,
+    chain: Vec<u8>,
+}
+
+impl Case {
+    fn new(size: Size, random: &mut Random) -> Case {
+        Case {
+            size,
+            key: random.bytes(size.key_bytes()),
+            chain: chains::valid(size, random),
+        }
+    }
+
+    /// The whole book.
+    fn book(&self, length: usize) -> (u32, Vec<u8>) {
+        self.both(length, bowlinette::build, book::build)
+    }
+
+    /// One round of it.
+    fn round(&self, number: usize, length: usize) -> (u32, Vec<u8>) {
+        self.both(
+            length,
+            |key, chain, out| bowlinette::build_round(key, chain, number, out),
+            |key, chain, out| book::build_round(key, chain, number, out),
+        )
+    }
+
+    /// Calls both versions with filled buffers of a length. They must give the same number and
+    /// leave the same bytes, a refusal all of them as they were.
+    fn both(
+        &self,
+        length: usize,
+        proved: impl Fn(&[u8], &[u8], &mut [u8]) -> u32,
+        reference: impl Fn(&[u8], &[u8], &mut [u8]) -> Result<(), u32>,
+    ) -> (u32, Vec<u8>) {
+        let (mut a, mut b) = (vec![FILL; length], vec![FILL; length]);
+        let number = proved(&self.key, &self.chain, &mut a);
+        let want = reference(&self.key, &self.chain, &mut b);
+        assert_eq!(number, want.err().unwrap_or(0));
+        let apart = a.iter().zip(&b).position(|(x, y)| x != y);
+        assert_eq!(apart, None, "the first byte that differs, {:?}", self.size);
+        assert!(number == 0 || a.iter().all(|&x| x == FILL));
+        (number, a)
+    }
+}
+
+/// Runs a check on a few random keys and chains of each size.
+fn on_cases(seed: u64, count: usize, check: impl Fn(Size, Case)) {
+    let mut random = Random(seed);
+    for size in Size::ALL {
+        for _ in 0..count {
+            check(size, Case::new(size, &mut random));
+        }
+    }
+}
+
+#[test]
+fn random_books() {
+    on_cases(40, 12, |size, case| {
+        assert_eq!(case.book(size.book_bytes()).0, 0);
+    });
+}
+
+/// A round by itself is that part of the book, its number taken mod the rounds.
+#[test]
+fn rounds_of_a_book() {
+    on_cases(41, 1, |size, case| {
+        let rounds = size.rounds();
+        let (_, book) = case.book(size.book_bytes());
+        for number in (0..3 * rounds).chain([1 << 32, usize::MAX]) {
+            let (told, tables) = case.round(number, ROUND);
+            let at = START + 3 * GROUP + ROUND * (number % rounds);
+            assert_eq!(told, 0);
+            assert!(tables == book[at..][..ROUND], "{size:?}, round {number}");
+        }
+    });
+}
+
+#[test]
+fn buffers_of_other_lengths() {
+    on_cases(42, 1, |size, case| {
+        let whole = size.book_bytes();
+        for length in [0, 1, ROUND, whole - ROUND, whole - 1] {
+            assert_eq!(case.book(length).0, 9, "{size:?}, {length} bytes");
+        }
+        for more in [0, 1, 16, ROUND] {
+            let (number, out) = case.book(whole + more);
+            assert_eq!(number, 0);
+            assert!(out[whole..].iter().all(|&x| x == FILL), "past the book");
+        }
+        for length in [0, 1, ADD, ROUND - 1] {
+            assert_eq!(case.round(5, length).0, 9, "a round, {length} bytes");
+        }
+        for more in [0, 1, 16, whole] {
+            let (number, out) = case.round(5, ROUND + more);
+            assert_eq!(number, 0);
+            assert!(out[ROUND..].iter().all(|&x| x == FILL), "past the round");
+        }
+    });
+}
+
+/// The first, a middle and the last of so many.
+fn places(count: usize) -> [usize; 3] {
+    [0, count / 2, count - 1]
+}
+
+/// The numbers that building the book, and a round of it, give after a change, in buffers that are
+/// long enough or empty: but for 9, what is refused is so in both.
+fn refused(case: &Case, change: impl Fn(&mut Case)) -> u32 {
+    let mut other = case.clone();
+    change(&mut other);
+    let number = other.book(case.size.book_bytes()).0;
+    assert_eq!(other.round(0, ROUND).0, number);
+    let empty = if number == 0 { 9 } else { number };
+    assert_eq!([other.book(0).0, other.round(7, 0).0], [empty; 2]);
+    number
+}
+
+#[test]
+fn key_and_chain_lengths() {
+    on_cases(43, 1, |size, case| {
+        for length in (0..=40).chain([272, 65_552]) {
+            let number = match Size::of_key(length) {
+                Some(other) if other == size => 0,
+                Some(_) => 2,
+                None => 1,
+            };
+            assert_eq!(refused(&case, |c| c.key.resize(length, 7)), number);
+        }
+        let right = case.chain.len();
+        for length in [0, SET, right - 1, right + 1, right + 65_536] {
+            assert_eq!(refused(&case, |c| c.chain.resize(length, 0)), 2);
+            let both = |c: &mut Case| {
+                c.chain.resize(length, 0);
+                c.key.push(0);
+            };
+            assert_eq!(refused(&case, both), 1);
+        }
+    });
+}
+
+#[test]
+fn chains_that_are_not_valid() {
+    on_cases(44, 1, |size, case| {
+        let sets = SET * (size.rounds() + 2);
+        for k in places(sets / CODING) {
+            let twice = |c: &mut Case| c.chain[CODING * k] = c.chain[CODING * k + 15];
+            assert_eq!(refused(&case, twice), 3, "coding {k} of the sets");
+        }
+        for l in places(size.rounds()) {
+            let middles = sets + chain::ROUND * l;
+            for k in places(MIDDLES) {
+                let large = |c: &mut Case| c.chain[middles + CODING * k] = 16;
+                assert_eq!(refused(&case, large), 3, "middle coding {k} of round {l}");
+                let mask = |c: &mut Case| c.chain[middles + CODING * MIDDLES + k] = 2;
+                assert_eq!(refused(&case, mask), 5, "mask {k} of round {l}");
+            }
+            let at = SET * (l + 2) + 3 * WORD;
+            let word = |c: &mut Case| c.chain.swap(at, at + 1);
+            assert_eq!(refused(&case, word), 4, "word 3 behind round {l}");
+        }
+    });
+}
+
+/// The examples of 01's table for add and turn tables, read off books of identity codings. The key
+/// half bytes of a round are what its row has, so the index is moved by them.
+#[test]
+fn table_examples() {
+    for size in Size::ALL {
+        let mut case = Case::new(size, &mut Random(45));
+        case.chain = chain::random(size, |bound| bound - 1);
+        for l in 0..size.rounds() {
+            let masks = SET * (size.rounds() + 2) + chain::ROUND * l + CODING * MIDDLES;
+            case.chain[masks..][..MIDDLES].fill(0);
+        }
+        let (_, plain) = case.round(0, ROUND);
+        let row = lea::round_keys(&case.key, 0).unwrap();
+        let add = |tables: &[u8], j: usize, c: usize, p: usize, q: usize| {
+            let half = |word: u32| (word >> (4 * j)) as usize & 15;
+            tables[ADD * j + 256 * c + 16 * (p ^ half(row[0])) + (q ^ half(row[1]))]
+        };
+        assert_eq!(add(&plain, 0, 0, 9, 8), 17);
+        assert_eq!(add(&plain, 7, 0, 9, 8), 1);
+        assert_eq!(add(&plain, 1, 1, 15, 15), 31);
+        assert_eq!(add(&plain, 0, 0, 9 ^ 3, 8 ^ 5), 23);
+        let turn = |i: usize| plain[MIDDLES * ADD + FOLD * 8 * i + 16 * 9 + 8];
+        assert_eq!([turn(0), turn(1)], [3, 12]);
+        case.chain[SET * (size.rounds() + 2) + CODING * MIDDLES + 1] = 1;
+        let (_, masked) = case.round(0, ROUND);
+        assert_eq!(add(&masked, 0, 0, 9, 8), 1);
+    }
+}
