@@ -1,6 +1,6 @@
 //! Times the proved library and the reference in one process and prints how they compare.
 
-use reference::{lea, Size};
+use reference::{book, chain, lea, Size};
 use std::hint::black_box as hide;
 use std::time::{Duration, Instant};
 
@@ -69,7 +69,7 @@ fn cipher(size: Size) {
 }
 
 /// Enciphering in a loop over 4,096 blocks.
-fn chain(size: Size) {
+fn mac_chain(size: Size) {
     let key: Vec<u8> = (0..size.key_bytes() as u8).map(|i| 7 * i).collect();
     let key = key.as_slice();
     let text: Vec<u8> = (0..65_536u32)
@@ -91,6 +91,32 @@ fn chain(size: Size) {
     );
 }
 
+/// Checking a chain, and building a book from a key and a chain.
+fn book(size: Size) {
+    let key: Vec<u8> = (0..size.key_bytes() as u8).map(|i| 7 * i).collect();
+    let key = key.as_slice();
+    let mut seed = 1u64;
+    let chain = chain::random(size, |n| {
+        seed = seed.wrapping_mul(6_364_136_223_846_793_005).wrapping_add(1);
+        (seed >> 33) as usize % n
+    });
+    let chain = chain.as_slice();
+    let (mut out, mut other) = (vec![0; size.book_bytes()], vec![0; size.book_bytes()]);
+    measure(
+        "check chain",
+        size,
+        || _ = hide(bowlinette::check_chain(hide(key.len()), hide(chain))),
+        || _ = hide(chain::check(hide(key.len()), hide(chain)).is_ok()),
+    );
+    measure(
+        "build",
+        size,
+        || _ = hide(bowlinette::build(hide(key), hide(chain), hide(&mut out))),
+        || _ = hide(book::build(hide(key), hide(chain), hide(&mut other))),
+    );
+    assert_eq!(out, other);
+}
+
 fn main() {
     println!("ns per call, the fastest of many runs of each version");
     let (key, ratio) = ("key bytes", "ratio");
@@ -100,6 +126,7 @@ fn main() {
     );
     for size in Size::ALL {
         cipher(size);
-        chain(size);
+        mac_chain(size);
+        book(size);
     }
 }
