@@ -7,8 +7,8 @@ use mathlib.Core.List.{List, [], _∷_}
 use lib.ListN.{getD, length, set, length-set}
 use Rattle.lists.specs.Tabulation.{tab}
 use Rattle.lists.proofs.TabulationLaws.{tab-is}
-use Rattle.cipher.specs.Schedule.{delta, deltaOf, mixed, mixedRow, place, mixAt, step32, row32, stepped}
-use Rattle.cipher.proofs.ScheduleLaws.{stepped-more}
+use Rattle.cipher.specs.Schedule.{delta, deltaOf, mixed, mixedRow, place, mixAt, step32, row32, stepped, filled}
+use Rattle.cipher.proofs.ScheduleLaws.{stepped-more, stored}
 
 -- the place, by the step's count mod 4
 place-is : (i r m : ℕ) → i % 4 ≡ r → place i m ≡ (6 * r + m) % 8
@@ -161,3 +161,28 @@ module _ (m0 m1 m2 m3 m4 : ℕ) (z0 : m0 % 4 ≡ 0) (e1 : m0 + 1 ≡ m1) (e2 : m
 -- a row that the code makes with δk
 pub named : (k m : ℕ) (w a : List ℕ) → m % 8 ≡ k → a ≡ mixedRow (getD delta k 0) m w → a ≡ mixedRow (deltaOf 8 m) m w
 named k m w a e h = h ∙ ap (λ (n : ℕ). mixedRow (getD delta n 0) m w) (sym e)
+
+-- a turn of the loop that makes eight steps
+pub turn32 : (j : ℕ) (t₀ t : List ℕ) (rows : List (List ℕ)) (a b c d e f g h : List ℕ) → j < 4 → length t₀ ≡ 8 → t ≡ stepped step32 (8 * j) t₀ → rows ≡ filled step32 row32 (8 * j) t₀
+    → a ≡ mixedRow (getD delta 0 0) (8 * j) (getD t 0 0 ∷ getD t 1 0 ∷ getD t 2 0 ∷ getD t 3 0 ∷ getD t 4 0 ∷ getD t 5 0 ∷ [])
+    → b ≡ mixedRow (getD delta 1 0) (8 * j + 1) (getD t 6 0 ∷ getD t 7 0 ∷ getD a 0 0 ∷ getD a 1 0 ∷ getD a 2 0 ∷ getD a 3 0 ∷ [])
+    → c ≡ mixedRow (getD delta 2 0) (8 * j + 2) (getD a 4 0 ∷ getD a 5 0 ∷ getD b 0 0 ∷ getD b 1 0 ∷ getD b 2 0 ∷ getD b 3 0 ∷ [])
+    → d ≡ mixedRow (getD delta 3 0) (8 * j + 3) (getD b 4 0 ∷ getD b 5 0 ∷ getD c 0 0 ∷ getD c 1 0 ∷ getD c 2 0 ∷ getD c 3 0 ∷ [])
+    → e ≡ mixedRow (getD delta 4 0) (8 * j + 4) (getD c 4 0 ∷ getD c 5 0 ∷ getD d 0 0 ∷ getD d 1 0 ∷ getD d 2 0 ∷ getD d 3 0 ∷ [])
+    → f ≡ mixedRow (getD delta 5 0) (8 * j + 5) (getD d 4 0 ∷ getD d 5 0 ∷ getD e 0 0 ∷ getD e 1 0 ∷ getD e 2 0 ∷ getD e 3 0 ∷ [])
+    → g ≡ mixedRow (getD delta 6 0) (8 * j + 6) (getD e 4 0 ∷ getD e 5 0 ∷ getD f 0 0 ∷ getD f 1 0 ∷ getD f 2 0 ∷ getD f 3 0 ∷ [])
+    → h ≡ mixedRow (getD delta 7 0) (8 * j + 7) (getD f 4 0 ∷ getD f 5 0 ∷ getD g 0 0 ∷ getD g 1 0 ∷ getD g 2 0 ∷ getD g 3 0 ∷ [])
+    → (getD g 4 0 ∷ getD g 5 0 ∷ getD h 0 0 ∷ getD h 1 0 ∷ getD h 2 0 ∷ getD h 3 0 ∷ getD h 4 0 ∷ getD h 5 0 ∷ [] ≡ stepped step32 (8 * (j + 1)) t₀) × (set (set (set (set (set (set (set (set rows (8 * j) a) (8 * j + 1) b) (8 * j + 2) c) (8 * j + 3) d) (8 * j + 4) e) (8 * j + 5) f) (8 * j + 6) g) (8 * j + 7) h ≡ filled step32 row32 (8 * (j + 1)) t₀)
+turn32 j t₀ t rows a b c d e f g h l size et er ea eb ec ed ee ef eg eh =
+    let f0 = four-steps (8 * j) (8 * j + 1) (8 * j + 2) (8 * j + 3) (8 * j + 4) (omega arith) (omega arith) (omega arith) (omega arith) (omega arith) t₀ _ _ _ _ _ size et (named 0 (8 * j) _ _ (omega arith) ea) (named 1 (8 * j + 1) _ _ (omega arith) eb) (named 2 (8 * j + 2) _ _ (omega arith) ec) (named 3 (8 * j + 3) _ _ (omega arith) ed) in
+    let f1 = four-steps (8 * j + 4) (8 * j + 5) (8 * j + 6) (8 * j + 7) (8 * j + 8) (omega arith) (omega arith) (omega arith) (omega arith) (omega arith) t₀ _ _ _ _ _ size (f0 .words) (named 4 (8 * j + 4) _ _ (omega arith) ee) (named 5 (8 * j + 5) _ _ (omega arith) ef) (named 6 (8 * j + 6) _ _ (omega arith) eg) (named 7 (8 * j + 7) _ _ (omega arith) eh) in
+    let r0 = stored step32 row32 (8 * j) (8 * j + 1) t₀ _ _ (omega arith) (omega arith) er (f0 .row-a) in
+    let r1 = stored step32 row32 (8 * j + 1) (8 * j + 2) t₀ _ _ (omega arith) (omega arith) r0 (f0 .row-b) in
+    let r2 = stored step32 row32 (8 * j + 2) (8 * j + 3) t₀ _ _ (omega arith) (omega arith) r1 (f0 .row-c) in
+    let r3 = stored step32 row32 (8 * j + 3) (8 * j + 4) t₀ _ _ (omega arith) (omega arith) r2 (f0 .row-d) in
+    let r4 = stored step32 row32 (8 * j + 4) (8 * j + 5) t₀ _ _ (omega arith) (omega arith) r3 (f1 .row-a) in
+    let r5 = stored step32 row32 (8 * j + 5) (8 * j + 6) t₀ _ _ (omega arith) (omega arith) r4 (f1 .row-b) in
+    let r6 = stored step32 row32 (8 * j + 6) (8 * j + 7) t₀ _ _ (omega arith) (omega arith) r5 (f1 .row-c) in
+    let r7 = stored step32 row32 (8 * j + 7) (8 * j + 8) t₀ _ _ (omega arith) (omega arith) r6 (f1 .row-d) in
+    let z : 8 * j + 8 ≡ 8 * (j + 1) = omega arith in
+    (f1 .words ∙ ap (λ (n : ℕ). stepped step32 n t₀) z, r7 ∙ ap (λ (n : ℕ). filled step32 row32 n t₀) z)

@@ -54,6 +54,68 @@ module _ (mix : ℕ → ℕ → List ℕ → List ℕ) (w : ℕ) (t₀ : List �
       ∙ sym (stepped-more (λ i. mix (deltaOf w i) i) (λ i t. t) m t₀)
       ∙ ap (λ (l : ℕ). stepped (λ i. mix (deltaOf w i) i) l t₀) f
 
+-- a turn of the loop that makes four steps, each with its own δ
+pub turn16 : (j : ℕ) (t₀ t : List ℕ) (rows : List (List ℕ)) (a b c d : List ℕ) → j < 6 → t ≡ stepped step16 (4 * j) t₀ → rows ≡ filled step16 row16 (4 * j) t₀
+    → a ≡ mixedFour (getD delta 0 0) (4 * j) t
+    → b ≡ mixedFour (getD delta 1 0) (4 * j + 1) a
+    → c ≡ mixedFour (getD delta 2 0) (4 * j + 2) b
+    → d ≡ mixedFour (getD delta 3 0) (4 * j + 3) c
+    → (d ≡ stepped step16 (4 * (j + 1)) t₀) × (set (set (set (set rows (4 * j) (row16 (4 * j) a)) (4 * j + 1) (row16 (4 * j + 1) b)) (4 * j + 2) (row16 (4 * j + 2) c)) (4 * j + 3) (row16 (4 * j + 3) d) ≡ filled step16 row16 (4 * (j + 1)) t₀)
+turn16 j t₀ t rows a b c d h et er ea eb ec ed =
+    let p0 = next mixedFour 4 t₀ 0 (4 * j) (4 * j + 1) _ _ (omega arith) (omega arith) et ea in
+    let p1 = next mixedFour 4 t₀ 1 (4 * j + 1) (4 * j + 2) _ _ (omega arith) (omega arith) p0 eb in
+    let p2 = next mixedFour 4 t₀ 2 (4 * j + 2) (4 * j + 3) _ _ (omega arith) (omega arith) p1 ec in
+    let p3 = next mixedFour 4 t₀ 3 (4 * j + 3) (4 * j + 4) _ _ (omega arith) (omega arith) p2 ed in
+    let r0 = stored step16 row16 (4 * j) (4 * j + 1) t₀ _ _ (omega arith) (omega arith) er (ap (row16 (4 * j)) p0) in
+    let r1 = stored step16 row16 (4 * j + 1) (4 * j + 2) t₀ _ _ (omega arith) (omega arith) r0 (ap (row16 (4 * j + 1)) p1) in
+    let r2 = stored step16 row16 (4 * j + 2) (4 * j + 3) t₀ _ _ (omega arith) (omega arith) r1 (ap (row16 (4 * j + 2)) p2) in
+    let r3 = stored step16 row16 (4 * j + 3) (4 * j + 4) t₀ _ _ (omega arith) (omega arith) r2 (ap (row16 (4 * j + 3)) p3) in
+    let e : 4 * j + 4 ≡ 4 * (j + 1) = omega arith in
+    (p3 ∙ ap (λ (n : ℕ). stepped step16 n t₀) e, r3 ∙ ap (λ (n : ℕ). filled step16 row16 n t₀) e)
+
+-- a turn of the loop that makes six steps, each with its own δ
+pub turn24 : (j : ℕ) (t₀ t : List ℕ) (rows : List (List ℕ)) (a b c d e f : List ℕ) → j < 4 → t ≡ stepped step24 (6 * j) t₀ → rows ≡ filled step24 row24 (6 * j) t₀
+    → a ≡ mixedRow (getD delta 0 0) (6 * j) t
+    → b ≡ mixedRow (getD delta 1 0) (6 * j + 1) a
+    → c ≡ mixedRow (getD delta 2 0) (6 * j + 2) b
+    → d ≡ mixedRow (getD delta 3 0) (6 * j + 3) c
+    → e ≡ mixedRow (getD delta 4 0) (6 * j + 4) d
+    → f ≡ mixedRow (getD delta 5 0) (6 * j + 5) e
+    → (f ≡ stepped step24 (6 * (j + 1)) t₀) × (set (set (set (set (set (set rows (6 * j) a) (6 * j + 1) b) (6 * j + 2) c) (6 * j + 3) d) (6 * j + 4) e) (6 * j + 5) f ≡ filled step24 row24 (6 * (j + 1)) t₀)
+turn24 j t₀ t rows a b c d e f h et er ea eb ec ed ee ef =
+    let p0 = next mixedRow 6 t₀ 0 (6 * j) (6 * j + 1) _ _ (omega arith) (omega arith) et ea in
+    let p1 = next mixedRow 6 t₀ 1 (6 * j + 1) (6 * j + 2) _ _ (omega arith) (omega arith) p0 eb in
+    let p2 = next mixedRow 6 t₀ 2 (6 * j + 2) (6 * j + 3) _ _ (omega arith) (omega arith) p1 ec in
+    let p3 = next mixedRow 6 t₀ 3 (6 * j + 3) (6 * j + 4) _ _ (omega arith) (omega arith) p2 ed in
+    let p4 = next mixedRow 6 t₀ 4 (6 * j + 4) (6 * j + 5) _ _ (omega arith) (omega arith) p3 ee in
+    let p5 = next mixedRow 6 t₀ 5 (6 * j + 5) (6 * j + 6) _ _ (omega arith) (omega arith) p4 ef in
+    let r0 = stored step24 row24 (6 * j) (6 * j + 1) t₀ _ _ (omega arith) (omega arith) er p0 in
+    let r1 = stored step24 row24 (6 * j + 1) (6 * j + 2) t₀ _ _ (omega arith) (omega arith) r0 p1 in
+    let r2 = stored step24 row24 (6 * j + 2) (6 * j + 3) t₀ _ _ (omega arith) (omega arith) r1 p2 in
+    let r3 = stored step24 row24 (6 * j + 3) (6 * j + 4) t₀ _ _ (omega arith) (omega arith) r2 p3 in
+    let r4 = stored step24 row24 (6 * j + 4) (6 * j + 5) t₀ _ _ (omega arith) (omega arith) r3 p4 in
+    let r5 = stored step24 row24 (6 * j + 5) (6 * j + 6) t₀ _ _ (omega arith) (omega arith) r4 p5 in
+    let e : 6 * j + 6 ≡ 6 * (j + 1) = omega arith in
+    (p5 ∙ ap (λ (n : ℕ). stepped step24 n t₀) e, r5 ∙ ap (λ (n : ℕ). filled step24 row24 n t₀) e)
+
+-- the last four steps of a key of 24 bytes
+pub last24 : (t₀ t : List ℕ) (rows : List (List ℕ)) (a b c d : List ℕ) → t ≡ stepped step24 24 t₀ → rows ≡ filled step24 row24 24 t₀
+    → a ≡ mixedRow (getD delta 0 0) 24 t
+    → b ≡ mixedRow (getD delta 1 0) 25 a
+    → c ≡ mixedRow (getD delta 2 0) 26 b
+    → d ≡ mixedRow (getD delta 3 0) 27 c
+    → set (set (set (set rows 24 a) 25 b) 26 c) 27 d ≡ filled step24 row24 28 t₀
+last24 t₀ t rows a b c d et er ea eb ec ed =
+    let p0 = next mixedRow 6 t₀ 0 24 25 _ _ refl refl et ea in
+    let p1 = next mixedRow 6 t₀ 1 25 26 _ _ refl refl p0 eb in
+    let p2 = next mixedRow 6 t₀ 2 26 27 _ _ refl refl p1 ec in
+    let p3 = next mixedRow 6 t₀ 3 27 28 _ _ refl refl p2 ed in
+    let r0 = stored step24 row24 24 25 t₀ _ _ refl (omega arith) er p0 in
+    let r1 = stored step24 row24 25 26 t₀ _ _ refl (omega arith) r0 p1 in
+    let r2 = stored step24 row24 26 27 t₀ _ _ refl (omega arith) r1 p2 in
+    let r3 = stored step24 row24 27 28 t₀ _ _ refl (omega arith) r2 p3 in
+    r3
+
 -- ---- every round key is a word
 
 -- a list of words, and rows of them
