@@ -1,8 +1,8 @@
 -- The answers of the operations on a key and a block, case by case. The cases exclude each other and leave none out, so
 -- each refusal is given exactly under its condition.
 -- Assumes nothing.
-use mathlib.Core.Path.{_≡_, refl, sym, ap, ap₂, _∙_}
-use mathlib.Core.Bool.{Bool, true, false, cond, not, _||_}
+use mathlib.Core.Path.{_≡_, ap, _∙_}
+use mathlib.Core.Bool.{Bool, cond, not, _||_}
 use mathlib.Core.List.{List, [], _∷_, _++_}
 use Prim.Native.Nat.{ℕ, _≤_, _<_}
 use native.Mathlib.Omega.{arith}
@@ -12,13 +12,12 @@ use lib.ListN.{length}
 use Rattle.lists.specs.Blocks.{zeros}
 use Rattle.lists.specs.Refusals.{first}
 use Rattle.lists.proofs.RefusalLaws.{first-hit, first-pass}
-use Rattle.cipher.specs.KeySize.{keyLength, sizeBy, sizeOfKey}
+use Rattle.cipher.specs.KeySize.{keyLength, sizeOfKey}
 use Rattle.cipher.specs.Answers.{keyLengthTests, keyTests, blockTests, keyLengthSize, keySize, onBlock}
 use Rattle.cipher.specs.declared.size.KeySize.{KeySize}
 use Rattle.cipher.specs.declared.size.KeySize.the-variants.{Bytes16, Bytes24, Bytes32}
-use Rattle.cipher.specs.declared.size.SizeFound.{SizeFound}
 use Rattle.cipher.specs.declared.size.SizeFound.the-variants.{Found, Unknown}
-use Rattle.cipher.proofs.KeySizeLaws.{found-length}
+use Rattle.cipher.proofs.KeySizeLaws.{found-length, none-of, one-of}
 
 -- the lesser of n and r, as `roundsAnswer` has it
 pub at-most : (n r : ℕ) → n ≤ r → cond (leb n r) n r ≡ n
@@ -31,21 +30,6 @@ at-most-all n r h = rw (lt-leb n r h)
 abbrev badKey : ℕ → Bool
 badKey n = not (eqb n 16 || eqb n 24 || eqb n 32)
 
-bad-key : (n : ℕ) → sizeOfKey n ≡ Unknown → badKey n ≡ true
-unfolding sizeBy
-bad-key n = go (eqb n 16) (eqb n 24) (eqb n 32)
-  where
-    go : (a b c : Bool) → cond a (Found Bytes16) (cond b (Found Bytes24) (cond c (Found Bytes32) Unknown)) ≡ Unknown → not (a || b || c) ≡ true
-    go false false false e = refl
-    go true b c e = let w : _≡_ {A = ℕ} 0 1 = cc in absurd (omega arith)
-    go false true c e = let w : _≡_ {A = ℕ} 0 1 = cc in absurd (omega arith)
-    go false false true e = let w : _≡_ {A = ℕ} 0 1 = cc in absurd (omega arith)
-
-good-key : (n : ℕ) (z : KeySize) → n ≡ keyLength z → badKey n ≡ false
-good-key n Bytes16 e = rw e
-good-key n Bytes24 e = rw e
-good-key n Bytes32 e = rw e
-
 size-is : (n : ℕ) (z : KeySize) → n ≡ keyLength z → keyLengthSize n ≡ z
 unfolding keyLengthSize
 size-is n Bytes16 e = rw e
@@ -55,13 +39,13 @@ size-is n Bytes32 e = rw e
 -- the test on the length of a key, and then those of `ts`, which may know its size
 module _ {A : Type 0} (n : ℕ) (ts : KeySize → List (Bool × ℕ)) (refuse : ℕ → A) (go : KeySize → A) where
   pub length-refused : sizeOfKey n ≡ Unknown → first (keyLengthTests n ++ ts (keyLengthSize n)) refuse (go (keyLengthSize n)) ≡ refuse 1
-  length-refused e = first-hit (badKey n) 1 (ts (keyLengthSize n)) refuse (go (keyLengthSize n)) (bad-key n e)
+  length-refused e = first-hit (badKey n) 1 (ts (keyLengthSize n)) refuse (go (keyLengthSize n)) (none-of keyLength n e)
 
   pub length-taken : (z : KeySize) → sizeOfKey n ≡ Found z
       → first (keyLengthTests n ++ ts (keyLengthSize n)) refuse (go (keyLengthSize n)) ≡ first (ts z) refuse (go z)
   length-taken z e =
       let l = found-length keyLength n z e in
-      first-pass (badKey n) 1 (ts (keyLengthSize n)) refuse (go (keyLengthSize n)) (good-key n z l)
+      first-pass (badKey n) 1 (ts (keyLengthSize n)) refuse (go (keyLengthSize n)) (one-of keyLength n z l)
       ∙ ap (λ (y : KeySize). first (ts y) refuse (go y)) (size-is n z l)
 
 -- the tests on a key, and then those of `ts`
@@ -89,3 +73,11 @@ module _ (key b : List ℕ) (f : KeySize → List ℕ) where
     on-done h =
         key-taken key (blockTests b) (λ n. (n, zeros)) (λ z. (0, f z)) z e
         ∙ first-pass (not (eqb (length b) 16)) 7 [] (λ n. (n, zeros)) (0, f z) (ap not (eq-eqb (length b) 16 h))
+
+-- the test on a block, and then those of `ts`
+module _ {A : Type 0} (b : List ℕ) (ts : List (Bool × ℕ)) (refuse : ℕ → A) (go : A) where
+  pub block-refused : (length b ≡ 16 → ⊥) → first (blockTests b ++ ts) refuse go ≡ refuse 7
+  block-refused h = first-hit (not (eqb (length b) 16)) 7 ts refuse go (ap not (ne-eqb (length b) 16 h))
+
+  pub block-taken : length b ≡ 16 → first (blockTests b ++ ts) refuse go ≡ first ts refuse go
+  block-taken h = first-pass (not (eqb (length b) 16)) 7 ts refuse go (ap not (eq-eqb (length b) 16 h))

@@ -1,7 +1,7 @@
 -- Laws of the key sizes: the rounds are a multiple of four and at most 32; a length tells its size, and a size its length.
 -- Assumes nothing.
 use mathlib.Core.Path.{_≡_, refl, _∙_}
-use mathlib.Core.Bool.{Bool, true, false, cond}
+use mathlib.Core.Bool.{Bool, true, false, cond, not, _||_}
 use Prim.Native.Nat.{ℕ, _*_, _/_, _≤_}
 use native.Mathlib.Omega.{arith}
 use lib.Dec.{eqb, lit≤}
@@ -71,3 +71,31 @@ found-length len n z = go (eqb n (len Bytes16)) refl (eqb n (len Bytes24)) refl 
     go false p true q c r e = let h : Bytes24 ≡ z = cc in eqb-true n (len Bytes24) q ∙ cc
     go false p false q true r e = let h : Bytes32 ≡ z = cc in eqb-true n (len Bytes32) r ∙ cc
     go false p false q false r e = let w : _≡_ {A = ℕ} 0 1 = cc in absurd (omega arith)
+
+-- a length that tells no size is none of the three, and one that tells a size is one of them
+module _ (len : KeySize → ℕ) (n : ℕ) where
+  pub none-of : sizeBy len n ≡ Unknown → not (eqb n (len Bytes16) || eqb n (len Bytes24) || eqb n (len Bytes32)) ≡ true
+  unfolding sizeBy
+  none-of = go (eqb n (len Bytes16)) (eqb n (len Bytes24)) (eqb n (len Bytes32))
+    where
+      go : (a b c : Bool) → cond a (Found Bytes16) (cond b (Found Bytes24) (cond c (Found Bytes32) Unknown)) ≡ Unknown → not (a || b || c) ≡ true
+      go false false false e = refl
+      go true b c e = let w : _≡_ {A = ℕ} 0 1 = cc in absurd (omega arith)
+      go false true c e = let w : _≡_ {A = ℕ} 0 1 = cc in absurd (omega arith)
+      go false false true e = let w : _≡_ {A = ℕ} 0 1 = cc in absurd (omega arith)
+
+  pub one-of : (z : KeySize) → n ≡ len z → not (eqb n (len Bytes16) || eqb n (len Bytes24) || eqb n (len Bytes32)) ≡ false
+  one-of Bytes16 e = rw (eq-eqb n (len Bytes16) e)
+  one-of Bytes24 e = second (eqb n (len Bytes16)) (eqb n (len Bytes24)) (eqb n (len Bytes32)) (eq-eqb n (len Bytes24) e)
+    where
+      second : (a b c : Bool) → b ≡ true → not (a || b || c) ≡ false
+      second true b c e = refl
+      second false true c e = refl
+      second false false c e = let w : _≡_ {A = ℕ} 0 1 = cc in absurd (omega arith)
+  one-of Bytes32 e = third (eqb n (len Bytes16)) (eqb n (len Bytes24)) (eqb n (len Bytes32)) (eq-eqb n (len Bytes32) e)
+    where
+      third : (a b c : Bool) → c ≡ true → not (a || b || c) ≡ false
+      third true b c e = refl
+      third false true c e = refl
+      third false false true e = refl
+      third false false false e = let w : _≡_ {A = ℕ} 0 1 = cc in absurd (omega arith)

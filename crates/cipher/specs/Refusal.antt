@@ -5,6 +5,8 @@ use Rattle.cipher.specs.declared.refusal.Refusal.{Refusal}
 use Rattle.cipher.specs.declared.refusal.Refusal.the-variants.{KeyLength, ChainLength, NoPermutation, WordRule, MaskByte, BookLength, BlockLength, MessageLength, ShortBuffer, KindByte, BadPadding, SessionFinished, SessionFull}
 use Rattle.cipher.specs.declared.refusal.Outcome.{Outcome}
 use Rattle.cipher.specs.declared.refusal.Outcome.the-variants.{Done, Refused}
+use Rattle.cipher.specs.declared.refusal.Written.{Written}
+use Rattle.cipher.specs.declared.refusal.Written.the-variants as written
 
 abbrev pub numberOf : Refusal → ℕ
 numberOf KeyLength = 1
@@ -25,3 +27,8 @@ numberOf SessionFull = 22
 abbrev pub outcomeOf : Outcome → ℕ
 outcomeOf Done = 0
 outcomeOf (Refused q) = numberOf q
+
+-- and where an operation writes, the number and how many bytes: none where it was refused
+abbrev pub writtenOf : Written → ℕ × ℕ
+writtenOf (written.Bytes n) = (0, n)
+writtenOf (written.Refused q) = (numberOf q, 0)

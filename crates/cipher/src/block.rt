@@ -1,10 +1,33 @@
-// Blocks coded by a set that lies in a slice (01, "Chain of codings"). Decoding is coding by the
-// inverted set.
+// Blocks in slices, and blocks coded by a set that lies in a slice (01, "Chain of codings").
+// Decoding is coding by the inverted set.
 ghost use mathlib.Core.Path.{_≡_};
-ghost use Prim.Native.Nat.{_≤_, _<_};
-ghost use lib.ListN.{length};
+ghost use mathlib.Core.List.{_++_};
+ghost use Prim.Native.Nat.{_+_, _≤_, _<_};
+ghost use lib.ListN.{length, take, drop};
 ghost use Rattle.cipher.specs.Coding.{LowSet, setOf, byteCoded, coded};
 use crate::size::KeySize;
+
+// The 16 bytes of s from a place on.
+pub fn block_at(s: &[u8], at: usize) -> [u8; 16]
+    requires { ⌜ at + 16 ≤ length (now s) ⌝ }
+    ensures { λ r. ⌜ r ≡ take 16 (drop at (now (s .entry))) ⌝ }
+{
+    let mut b = [0u8; 16];
+    for k in 0..16 {
+        b[k] = s[at + k];
+    }
+    b
+}
+
+// A block written over the 16 bytes of d from a place on.
+pub fn put_block(d: &mut [u8], at: usize, b: [u8; 16])
+    requires { ⌜ at + 16 ≤ length (now d) ⌝ }
+    ensures { λ _. ⌜ now (d .exit) ≡ take at (now (d .entry)) ++ b ++ drop (at + 16) (now (d .entry)) ⌝ }
+{
+    for k in 0..16 {
+        d[at + k] = b[k];
+    }
+}
 
 // Byte k of a block, x, coded: codings 2k and 2k + 1 serve its halves.
 fn code_byte(set: &[u8], k: usize, x: u8) -> u8

@@ -26,7 +26,8 @@ pub struct RowAnswer {
     pub row: [u32; 6],
 }
 
-fn refused(why: Refusal) -> BlockAnswer
+// A refusal as an answer.
+pub fn refused(why: Refusal) -> BlockAnswer
     ensures { λ r. ⌜ blockTold r ≡ (numberOf why, zeros) ⌝ }
 {
     BlockAnswer {

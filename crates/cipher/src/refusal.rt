@@ -24,6 +24,12 @@ pub enum Outcome {
     Refused(Refusal),
 }
 
+// The outcome of an operation that writes bytes: how many.
+pub enum Written {
+    Bytes(usize),
+    Refused(Refusal),
+}
+
 impl Refusal {
     pub fn number(self) -> u32
         ensures { λ r. ⌜ r ≡ numberOf self ⌝ }

@@ -8,9 +8,9 @@ use native.Mathlib.Nat.{le-of-eq, add-sub-cancel-left}
 use native.Mathlib.Numerals.{add-one}
 use native.Mathlib.Omega.{arith}
 use lib.ListN.{length, take, drop, getD, set, replicate, length-drop, drop-of-length-le}
-use lib.Seq.{drop-cons, set-at, drop-drop, take-at, drop-at, length-take-le, append-snoc, take-suc, take-all}
+use lib.Seq.{drop-cons, set-at, drop-drop, take-at, drop-at, length-take-le, append-snoc, take-suc, take-all, getD-take, getD-drop, paste, paste-suc}
 use Rattle.lists.specs.Tabulation.{tab, chunks}
-use Rattle.lists.proofs.TabulationLaws.{tab-more, length-tab}
+use Rattle.lists.proofs.TabulationLaws.{tab-more, length-tab, tab-is}
 use Rattle.lists.proofs.ChunkLaws.{chunks-more, length-chunks}
 
 -- p is written and the rest of d is as it was: one element more
@@ -70,3 +70,21 @@ pub fill-full : (f : ℕ → ℕ) (n : ℕ) (d : List ℕ) (i : ℕ) → d ≡ t
 fill-full f n d i e h =
     let k : n - i ≡ 0 = omega arith in
     e ∙ rw (k, append-nil, h)
+
+-- a part of a list read element by element
+pub tab-part : (s : List ℕ) (at n : ℕ) → at + n ≤ length s → tab n (λ k. getD s (at + k) 0) ≡ take n (drop at s)
+tab-part s at n h =
+    tab-is n (λ k. getD s (at + k) 0) (take n (drop at s)) (length-take-le n (drop at s) (rw length-drop (omega arith)))
+    (λ k l. sym (getD-take n (drop at s) k 0 l ∙ getD-drop at s k 0))
+
+-- a loop that copies b into d element by element, from a place on
+pub paste-turn : (d₀ d b : List ℕ) (at n k : ℕ) → at + n ≤ length d₀ → k < n → length b ≡ n → d ≡ paste d₀ at b k
+    → set d (at + k) (getD b k 0) ≡ paste d₀ at b (k + 1)
+paste-turn d₀ d b at n k h hk l e =
+    ap (λ (l : List ℕ). set l (at + k) (getD b k 0)) e
+    ∙ paste-suc d₀ at b k 0 (omega arith) (omega arith)
+    ∙ ap (λ (j : ℕ). paste d₀ at b j) (sym (add-one k))
+
+pub paste-full : (d₀ d b : List ℕ) (at n k : ℕ) → d ≡ paste d₀ at b k → k ≡ n → length b ≡ n → d ≡ take at d₀ ++ b ++ drop (at + n) d₀
+paste-full d₀ d b at n k e f l =
+    e ∙ ap (λ (j : ℕ). paste d₀ at b j) f ∙ ap (λ (q : List ℕ). take at d₀ ++ q ++ drop (at + n) d₀) (take-all n b (omega arith))
