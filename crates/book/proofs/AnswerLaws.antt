@@ -6,12 +6,10 @@ use mathlib.Core.List.{List, [], _∷_, _++_}
 use Prim.Native.Nat.{ℕ, _-_, _%_, _≤_, _<_}
 use native.Mathlib.Nat.{mod-lt}
 use native.Mathlib.Omega.{arith}
-use borrow.Author.Tests.{lt-ltb, le-ltb}
-use lib.Dec.{ltb}
 use lib.ListN.{length, getD, take, drop}
 use lib.Seq.{length-take-le}
 use Rattle.lists.specs.Refusals.{first}
-use Rattle.lists.proofs.RefusalLaws.{first-hit, first-pass, Clear}
+use Rattle.lists.proofs.RefusalLaws.{Clear}
 use Rattle.cipher.specs.KeySize.{rounds, sizeOfKey}
 use Rattle.cipher.specs.Schedule.{schedule}
 use Rattle.cipher.specs.Book.{roundPart, bookRound}
@@ -19,10 +17,11 @@ use Rattle.cipher.proofs.KeySizeLaws.{rounds-more}
 use Rattle.cipher.specs.Chain.{Chain, roundCodings, chainTests}
 use Rattle.cipher.proofs.ChainTests.{chain-tested}
 use Rattle.cipher.proofs.ChainRefusals.{chain-taken}
-use Rattle.cipher.proofs.AnswerLaws.{length-refused, length-taken}
+use Rattle.cipher.specs.Answers.{roomTests}
+use Rattle.cipher.proofs.AnswerLaws.{length-refused, length-taken, room-refused, room-taken}
 use Rattle.cipher.specs.declared.size.KeySize.{KeySize}
 use Rattle.cipher.specs.declared.size.SizeFound.the-variants.{Found, Unknown}
-use Rattle.book.specs.Answers.{roomTests, builtInto}
+use Rattle.book.specs.Answers.{builtInto}
 
 -- no number is 0
 abbrev Numbered : List (Bool × ℕ) → Type 0
@@ -75,13 +74,11 @@ module _ (key ch out : List ℕ) (len : KeySize → ℕ) (part : KeySize → Lis
       taken = sized ∙ chain-taken (roomTests (len z) out) (λ n. (n, out)) (0, part z ++ drop (len z) out) z ch v
 
       pub built-room : length out < len z → builtInto key ch out len part ≡ (9, out)
-      built-room h = taken ∙ first-hit (ltb (length out) (len z)) 9 [] (λ n. (n, out)) (0, part z ++ drop (len z) out) (lt-ltb (length out) (len z) h)
+      built-room h = taken ∙ room-refused (len z) out (λ n. (n, out)) (0, part z ++ drop (len z) out) h
 
       pub built-done : len z ≤ length out → (x : List ℕ) → x ≡ part z → (0, x ++ drop (len z) out) ≡ builtInto key ch out len part
-      unfolding first
       built-done h x p =
-          ap (λ (y : List ℕ). (0, y ++ drop (len z) out)) p
-          ∙ sym (taken ∙ first-pass (ltb (length out) (len z)) 9 [] (λ n. (n, out)) (0, part z ++ drop (len z) out) (le-ltb (length out) (len z) h))
+          ap (λ (y : List ℕ). (0, y ++ drop (len z) out)) p ∙ sym (taken ∙ room-taken (len z) out (λ n. (n, out)) (0, part z ++ drop (len z) out) h)
 
       -- the same where n is written for the length
       pub built-front : len z ≤ length out → (n : ℕ) → n ≡ len z → (x : List ℕ) → x ≡ part z → (0, x ++ drop (n - 0) out) ≡ builtInto key ch out len part

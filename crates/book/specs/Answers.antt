@@ -1,22 +1,16 @@
 -- What the builder answers (document 01, "Book" and "Refusals from the input"): the number of a refusal and the buffer as it
 -- was, or 0 and what was asked for, then what the buffer held before.
 -- Assumes nothing.
-use mathlib.Core.Bool.{Bool}
-use mathlib.Core.List.{List, [], _∷_, _++_}
+use mathlib.Core.List.{List, _++_}
 use Prim.Native.Nat.{ℕ, _%_}
-use lib.Dec.{ltb}
-use lib.ListN.{length, drop}
+use lib.ListN.{drop}
 use Rattle.lists.specs.Refusals.{first}
 use Rattle.cipher.specs.KeySize.{rounds, bookLength}
 use Rattle.cipher.specs.Schedule.{schedule}
 use Rattle.cipher.specs.Chain.{chainTests}
 use Rattle.cipher.specs.Book.{bookOf, bookRound, roundLength}
-use Rattle.cipher.specs.Answers.{keyTests, keySize}
+use Rattle.cipher.specs.Answers.{keyTests, keySize, roomTests}
 use Rattle.cipher.specs.declared.size.KeySize.{KeySize}
-
--- refusal 9: a buffer shorter than the n bytes that are written
-abbrev pub roomTests : ℕ → List ℕ → List (Bool × ℕ)
-roomTests n out = (ltb (length out) n, 9) ∷ []
 
 -- the part that a key of size z and a chain make, of len z bytes, into the front of out
 unfoldable pub builtInto : List ℕ → List ℕ → List ℕ → (KeySize → ℕ) → (KeySize → List ℕ) → ℕ × List ℕ

@@ -1,19 +1,19 @@
 -- The answers of the operations on a key and a block, case by case. The cases exclude each other and leave none out, so
 -- each refusal is given exactly under its condition.
 -- Assumes nothing.
-use mathlib.Core.Path.{_≡_, ap, _∙_}
-use mathlib.Core.Bool.{Bool, cond, not, _||_}
+use mathlib.Core.Path.{_≡_, refl, ap, _∙_}
+use mathlib.Core.Bool.{Bool, true, false, cond, not, _||_}
 use mathlib.Core.List.{List, [], _∷_, _++_}
-use Prim.Native.Nat.{ℕ, _≤_, _<_}
+use Prim.Native.Nat.{ℕ, _%_, _≤_, _<_}
 use native.Mathlib.Omega.{arith}
-use borrow.Author.Tests.{eq-eqb, ne-eqb, le-leb, lt-leb}
-use lib.Dec.{eqb, leb}
+use borrow.Author.Tests.{eq-eqb, ne-eqb, eqb-true, eqb-false, le-leb, lt-leb, le-ltb, lt-ltb, ltb-false}
+use lib.Dec.{eqb, leb, ltb}
 use lib.ListN.{length}
 use Rattle.lists.specs.Blocks.{zeros}
 use Rattle.lists.specs.Refusals.{first}
 use Rattle.lists.proofs.RefusalLaws.{first-hit, first-pass}
 use Rattle.cipher.specs.KeySize.{keyLength, sizeOfKey}
-use Rattle.cipher.specs.Answers.{keyLengthTests, keyTests, blockTests, keyLengthSize, keySize, onBlock}
+use Rattle.cipher.specs.Answers.{keyLengthTests, keyTests, blockTests, badText, textTests, roomTests, keyLengthSize, keySize, onBlock}
 use Rattle.cipher.specs.declared.size.KeySize.{KeySize}
 use Rattle.cipher.specs.declared.size.KeySize.the-variants.{Bytes16, Bytes24, Bytes32}
 use Rattle.cipher.specs.declared.size.SizeFound.the-variants.{Found, Unknown}
@@ -81,3 +81,52 @@ module _ {A : Type 0} (b : List ℕ) (ts : List (Bool × ℕ)) (refuse : ℕ →
 
   pub block-taken : length b ≡ 16 → first (blockTests b ++ ts) refuse go ≡ first ts refuse go
   block-taken h = first-pass (not (eqb (length b) 16)) 7 ts refuse go (ap not (eq-eqb (length b) 16 h))
+
+-- which texts of blocks are refused
+module _ (n : ℕ) where
+  pub text-empty : n ≡ 0 → badText n ≡ true
+  unfolding badText
+  text-empty h = simp (eq-eqb n 0 h)
+
+  module _ (a : n ≡ 0 → ⊥) where
+    pub text-long : 1048576 < n → badText n ≡ true
+    unfolding badText
+    text-long h = simp (ne-eqb n 0 a, lt-ltb 1048576 n h)
+
+    module _ (b : n ≤ 1048576) where
+      pub text-left : badText n ≡ not (eqb (n % 16) 0)
+      unfolding badText
+      text-left = simp (ne-eqb n 0 a, le-ltb 1048576 n b)
+
+      pub text-good : n % 16 ≡ 0 → badText n ≡ false
+      unfolding badText
+      text-good h = simp (ne-eqb n 0 a, le-ltb 1048576 n b, eq-eqb (n % 16) 0 h)
+
+-- and the way back
+pub text-known : (n : ℕ) → badText n ≡ false → (0 < n) × (n ≤ 1048576) × (n % 16 ≡ 0)
+unfolding badText
+text-known n = go (eqb n 0) refl (ltb 1048576 n) refl (eqb (n % 16) 0) refl
+  where
+    go : (a : Bool) → eqb n 0 ≡ a → (b : Bool) → ltb 1048576 n ≡ b → (c : Bool) → eqb (n % 16) 0 ≡ c → a || b || not c ≡ false
+        → (0 < n) × (n ≤ 1048576) × (n % 16 ≡ 0)
+    go false p false q true r e = (omega (arith, eqb-false n 0 p), ltb-false 1048576 n q, eqb-true (n % 16) 0 r)
+    go true p b q c r e = let w : _≡_ {A = ℕ} 0 1 = cc in absurd (omega arith)
+    go false p true q c r e = let w : _≡_ {A = ℕ} 0 1 = cc in absurd (omega arith)
+    go false p false q false r e = let w : _≡_ {A = ℕ} 0 1 = cc in absurd (omega arith)
+
+-- the test on a text of blocks, and then those of `ts`
+module _ {A : Type 0} (t : List ℕ) (ts : List (Bool × ℕ)) (refuse : ℕ → A) (go : A) where
+  pub text-refused : badText (length t) ≡ true → first (textTests t ++ ts) refuse go ≡ refuse 8
+  text-refused h = first-hit (badText (length t)) 8 ts refuse go h
+
+  pub text-taken : badText (length t) ≡ false → first (textTests t ++ ts) refuse go ≡ first ts refuse go
+  text-taken h = first-pass (badText (length t)) 8 ts refuse go h
+
+-- the test on a buffer, the last of an operation
+module _ {A : Type 0} (n : ℕ) (out : List ℕ) (refuse : ℕ → A) (go : A) where
+  pub room-refused : length out < n → first (roomTests n out) refuse go ≡ refuse 9
+  room-refused h = first-hit (ltb (length out) n) 9 [] refuse go (lt-ltb (length out) n h)
+
+  pub room-taken : n ≤ length out → first (roomTests n out) refuse go ≡ go
+  unfolding first
+  room-taken h = first-pass (ltb (length out) n) 9 [] refuse go (le-ltb (length out) n h)

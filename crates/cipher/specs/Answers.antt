@@ -4,7 +4,7 @@
 use mathlib.Core.Bool.{Bool, cond, not, _||_}
 use mathlib.Core.List.{List, [], _∷_, _++_}
 use Prim.Native.Nat.{ℕ, _%_}
-use lib.Dec.{eqb, leb}
+use lib.Dec.{eqb, leb, ltb}
 use lib.ListN.{length, getD}
 use Rattle.lists.specs.Blocks.{zeros}
 use Rattle.lists.specs.Refusals.{first}
@@ -36,6 +36,17 @@ keyTests key = keyLengthTests (length key)
 
 abbrev pub blockTests : List ℕ → List (Bool × ℕ)
 blockTests b = (not (eqb (length b) 16), 7) ∷ []
+
+-- refusal 8 for what is sealed or opened: input that is empty, over 1,048,576 bytes, or not of whole blocks
+unfoldable pub badText : ℕ → Bool
+badText n = eqb n 0 || ltb 1048576 n || not (eqb (n % 16) 0)
+
+abbrev pub textTests : List ℕ → List (Bool × ℕ)
+textTests t = (badText (length t), 8) ∷ []
+
+-- refusal 9: a buffer shorter than the n bytes that are written
+abbrev pub roomTests : ℕ → List ℕ → List (Bool × ℕ)
+roomTests n out = (ltb (length out) n, 9) ∷ []
 
 -- the size of a key that is not refused
 unfoldable pub keyLengthSize : ℕ → KeySize

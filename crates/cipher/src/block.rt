@@ -5,7 +5,24 @@ ghost use mathlib.Core.List.{_++_};
 ghost use Prim.Native.Nat.{_+_, _≤_, _<_};
 ghost use lib.ListN.{length, take, drop};
 ghost use Rattle.cipher.specs.Coding.{LowSet, setOf, byteCoded, coded};
+ghost use Rattle.cipher.specs.Answers.{badText};
 use crate::size::KeySize;
+
+// The most bytes that are sealed, or opened.
+pub const LONGEST: usize = 1048576;
+
+// Whether n bytes are no text of blocks that is taken: empty, too long, or not of whole blocks.
+pub fn bad_text(n: usize) -> bool
+    ensures { λ r. ⌜ r ≡ badText n ⌝ }
+{
+    if n == 0 {
+        return true;
+    }
+    if n > LONGEST {
+        return true;
+    }
+    n % 16 != 0
+}
 
 // The 16 bytes of s from a place on.
 pub fn block_at(s: &[u8], at: usize) -> [u8; 16]

@@ -1,0 +1,61 @@
+-- A block taken through rounds of a book, round by round, and a fold and all rounds together.
+-- Assumes nothing.
+use mathlib.Core.Path.{_≡_, sym, ap, ap₂, _∙_}
+use mathlib.Core.List.{List}
+use Prim.Native.Nat.{ℕ, zero, suc, _+_, _-_, _*_, _/_}
+use native.Mathlib.Numerals.{add-one}
+use native.Mathlib.Omega.{arith}
+use lib.ListN.{length, take, drop}
+use Rattle.lists.specs.Blocks.{Block}
+use Rattle.lists.proofs.PartLaws.{part-end}
+use Rattle.cipher.specs.KeySize.{rounds, bookLength, sizeOfBook}
+use Rattle.cipher.specs.Tables.{tableRound, tableRounds, tableFold}
+use Rattle.cipher.specs.Book.{groupAt, roundAt}
+use Rattle.cipher.specs.declared.size.KeySize.{KeySize}
+use Rattle.cipher.specs.declared.size.SizeFound.the-variants.{Found}
+use Rattle.cipher.proofs.CodingLaws.{block-halves}
+use Rattle.cipher.proofs.RoundLaw.{after-lt}
+use Rattle.cipher.proofs.FoldLaw.{fold-lt}
+use Rattle.cipher.proofs.KeySizeLaws.{found-length}
+use Rattle.driver.specs.Driver.{roundsOf, pass}
+
+-- one round more
+pub rounds-turn : (bk x y z : List ℕ) (l : ℕ) → y ≡ tableRounds (roundAt bk) l x
+    → z ≡ tableRound (take (length bk - (24592 + 18432 * l)) (drop (24592 + 18432 * l) bk)) y
+    → z ≡ tableRounds (roundAt bk) (l + 1) x
+unfolding tableRounds
+rounds-turn bk x y z l ey ez =
+    ez
+    ∙ ap₂ tableRound (part-end bk (24592 + 18432 * l)) ey
+    ∙ ap (λ (k : ℕ). tableRounds (roundAt bk) k x) (sym (add-one l))
+
+-- the rounds of a book of a known length
+pub rounds-known : (z : KeySize) (bk : List ℕ) → length bk ≡ bookLength z → roundsOf bk ≡ rounds z
+unfolding roundsOf
+rounds-known z bk e = omega arith
+
+pub rounds-found : (z : KeySize) (bk : List ℕ) → sizeOfBook (length bk) ≡ Found z → roundsOf bk ≡ rounds z
+rounds-found z bk e = rounds-known z bk (found-length bookLength (length bk) z e)
+
+-- a fold by group g and then all rounds
+pub pass-is : (z : KeySize) (bk x m f y : List ℕ) (g r : ℕ) → length bk ≡ bookLength z → r ≡ rounds z
+    → f ≡ tableFold (take (length bk - (16 + 8192 * g)) (drop (16 + 8192 * g) bk)) x m
+    → y ≡ tableRounds (roundAt bk) r f → y ≡ pass bk g x m
+unfolding pass
+pass-is z bk x m f y g r e er ef ey =
+    ey
+    ∙ ap₂ (tableRounds (roundAt bk)) (er ∙ sym (rounds-known z bk e)) (ef ∙ ap (λ (t : List ℕ). tableFold t x m) (part-end bk (16 + 8192 * g)))
+
+-- what rounds and folds give are blocks
+pub block-rounds : (t : ℕ → List ℕ) (n : ℕ) (b : List ℕ) → Block b → Block (tableRounds t n b)
+unfolding tableRounds tableRound
+block-rounds t zero b h = h
+block-rounds t (suc n) b h = block-halves _ (after-lt (t n) (tableRounds t n b))
+
+pub block-fold : (t x m : List ℕ) → Block (tableFold t x m)
+unfolding tableFold
+block-fold t x m = block-halves _ (fold-lt t x m)
+
+pub block-pass : (bk : List ℕ) (g : ℕ) (x m : List ℕ) → Block (pass bk g x m)
+unfolding pass
+block-pass bk g x m = block-rounds (roundAt bk) (roundsOf bk) (tableFold (groupAt bk g) x m) (block-fold (groupAt bk g) x m)

@@ -1,0 +1,54 @@
+// Rounds on one block: by the tables of a single round, or by the first rounds of a book. Each
+// refuses tables of a wrong length (6), then a block that is not of 16 bytes (7).
+ghost use mathlib.Core.Path.{_≡_};
+ghost use Rattle.cipher.specs.Answers.{blockTold};
+ghost use Rattle.driver.specs.Driver.{roundAnswer, roundsAnswer};
+use crate::round::round;
+use crate::round::rounds;
+use cipher::block::block_at;
+use cipher::lea::BlockAnswer;
+use cipher::lea::refused;
+use cipher::refusal::Outcome;
+use cipher::refusal::Refusal;
+use cipher::size::KeySize;
+use cipher::size::SizeFound;
+
+fn done(block: [u8; 16]) -> BlockAnswer
+    ensures { λ r. ⌜ blockTold r ≡ (0, block) ⌝ }
+{
+    BlockAnswer {
+        outcome: Outcome::Done,
+        block,
+    }
+}
+
+// A block by the tables of one round.
+pub fn run_round(tables: &[u8], block: &[u8]) -> BlockAnswer
+    ensures { λ r. ⌜ blockTold r ≡ roundAnswer (now (tables .entry)) (now (block .entry)) ⌝ }
+{
+    if tables.len() != KeySize::ROUND_TABLES {
+        return refused(Refusal::BookLength);
+    }
+    if block.len() != 16 {
+        return refused(Refusal::BlockLength);
+    }
+    done(round(tables, block_at(block, 0)))
+}
+
+// A block by the first n rounds of a book, all of them where n is more.
+pub fn run_rounds(book: &[u8], n: usize, block: &[u8]) -> BlockAnswer
+    ensures { λ r. ⌜ blockTold r ≡ roundsAnswer (now (book .entry)) n (now (block .entry)) ⌝ }
+{
+    let SizeFound::Found(size) = KeySize::of_book_len(book.len()) else {
+        return refused(Refusal::BookLength);
+    };
+    if block.len() != 16 {
+        return refused(Refusal::BlockLength);
+    }
+    let all = size.rounds();
+    let first = block_at(block, 0);
+    if n <= all {
+        return done(rounds(book, n, first));
+    }
+    done(rounds(book, all, first))
+}

@@ -1,0 +1,138 @@
+// The tag session, by value: a call gets the session and hands it back, changed where the call was
+// taken and as it was where it was refused.
+ghost use mathlib.Core.Path.{_≡_};
+ghost use Prim.Native.Nat.{_<_};
+ghost use Rattle.cipher.specs.Refusal.{numberOf};
+ghost use Rattle.lists.specs.Blocks.{zeros};
+ghost use Rattle.driver.specs.Driver as D;
+use crate::fold::pass;
+use cipher::block::block_at;
+use cipher::refusal::Outcome;
+use cipher::refusal::Refusal;
+use cipher::size::KeySize;
+use cipher::size::SizeFound;
+
+// A session: the block so far, how many block calls were taken, and whether the last call was.
+pub struct Session {
+    pub block: [u8; 16],
+    pub taken: u16,
+    pub finished: bool,
+}
+
+// What beginning and a block call give.
+pub struct SessionAnswer {
+    pub outcome: Outcome,
+    pub session: Session,
+}
+
+// What a last call gives: a tag, or the refusal and zeros.
+pub struct TagAnswer {
+    pub outcome: Outcome,
+    pub tag: [u8; 16],
+    pub session: Session,
+}
+
+// A fresh session on a book. Where the book is refused (6) there is none, and what is handed back
+// is a finished one, which takes no call.
+pub fn begin(book: &[u8]) -> SessionAnswer
+    ensures { λ r. ⌜ D.sessionTold r ≡ D.beginAnswer (now (book .entry)) ⌝ }
+{
+    let SizeFound::Found(_) = KeySize::of_book_len(book.len()) else {
+        return SessionAnswer {
+            outcome: Outcome::Refused(Refusal::BookLength),
+            session: Session {
+                block: [0u8; 16],
+                taken: 0,
+                finished: true,
+            },
+        };
+    };
+    let start = block_at(book, 0);
+    SessionAnswer {
+        outcome: Outcome::Done,
+        session: Session {
+            block: start,
+            taken: 0,
+            finished: false,
+        },
+    }
+}
+
+// A session as it was, and why the call on it was refused.
+fn kept(s: Session, why: Refusal) -> SessionAnswer
+    ensures { λ r. ⌜ D.sessionTold r ≡ (numberOf why, s) ⌝ }
+{
+    SessionAnswer {
+        outcome: Outcome::Refused(why),
+        session: s,
+    }
+}
+
+// A block call.
+pub fn block_call(s: Session, book: &[u8], block: &[u8]) -> SessionAnswer
+    ensures { λ r. ⌜ D.sessionTold r ≡ D.blockAnswer (now (book .entry)) (now (block .entry)) s ⌝ }
+{
+    let SizeFound::Found(size) = KeySize::of_book_len(book.len()) else {
+        return kept(s, Refusal::BookLength);
+    };
+    if block.len() != 16 {
+        return kept(s, Refusal::BlockLength);
+    }
+    if s.finished {
+        return kept(s, Refusal::SessionFinished);
+    }
+    if s.taken == 65535 {
+        return kept(s, Refusal::SessionFull);
+    }
+    let held = s.block;
+    let next = pass(size, book, 0, held, block_at(block, 0));
+    SessionAnswer {
+        outcome: Outcome::Done,
+        session: Session {
+            block: next,
+            taken: s.taken + 1,
+            finished: s.finished,
+        },
+    }
+}
+
+// The same where a last call was refused.
+fn no_tag(s: Session, why: Refusal) -> TagAnswer
+    ensures { λ r. ⌜ D.tagTold r ≡ ((numberOf why, zeros), s) ⌝ }
+{
+    TagAnswer {
+        outcome: Outcome::Refused(why),
+        tag: [0u8; 16],
+        session: s,
+    }
+}
+
+// A last call.
+pub fn last_call(s: Session, book: &[u8], block: &[u8], kind: u8) -> TagAnswer
+    ensures { λ r. ⌜ D.tagTold r ≡ D.lastAnswer (now (book .entry)) (now (block .entry)) kind s ⌝ }
+{
+    let SizeFound::Found(size) = KeySize::of_book_len(book.len()) else {
+        return no_tag(s, Refusal::BookLength);
+    };
+    if block.len() != 16 {
+        return no_tag(s, Refusal::BlockLength);
+    }
+    if kind > 1 {
+        return no_tag(s, Refusal::KindByte);
+    }
+    if s.finished {
+        return no_tag(s, Refusal::SessionFinished);
+    }
+    let group = kind as usize + 1;
+    let held = s.block;
+    let tag = pass(size, book, group, held, block_at(block, 0));
+    TagAnswer {
+        outcome: Outcome::Done,
+        tag,
+        session: Session {
+            block: held,
+            taken: s.taken,
+            finished: true,
+        },
+    }
+}
