@@ -1,0 +1,3 @@
+pub mod PadLaws
+pub mod TextLaws
+pub mod AnswerLaws
