@@ -10,7 +10,7 @@ use native.Mathlib.Omega.{arith}
 use borrow.Author.Tests.{eq-eqb, ne-eqb}
 use lib.Dec.{eqb, lit<}
 use lib.ListN.{length, getD, take, replicate, length-append, length-replicate, getD-replicate, List·getD-append, List·getD-eq-default}
-use lib.Seq.{take-at, getD-append-add}
+use lib.Seq.{length-take-le, take-at, getD-append-add}
 use Rattle.lists.specs.Blocks.{Below, Bytes}
 use Rattle.pad.specs.Padding.{sealingAdded, paddedForSealing, lastByte, SealingPadded, stripped, fillsBlocks, kindOf, tagAdded, paddedForTag}
 
@@ -32,15 +32,25 @@ replicate-front zero n v h = refl
 replicate-front (suc k) zero v h = absurd (omega arith)
 replicate-front (suc k) (suc n) v h = ap {B = List ℕ} (λ t. v ∷ t) (replicate-front k n v (omega arith))
 
+-- the front of a list, as the code lends it
+pub front-length : (k : ℕ) (l : List ℕ) → k ≤ length l → length (take (k - 0) l) ≡ k
+front-length k l h =
+    let e : k - 0 ≡ k = omega arith in
+    rw e (length-take-le k l h)
+
 -- ---- for sealing
 
 module _ (m : List ℕ) where
-  added : ℕ
-  added = sealingAdded (length m)
-
   pub sealing-length : length (paddedForSealing m) ≡ length m + sealingAdded (length m)
   unfolding paddedForSealing
   sealing-length = length-append m (replicate (sealingAdded (length m)) (sealingAdded (length m))) ∙ rw length-replicate
+
+  -- what is added, as the code lends it: the front of sixteen equal bytes
+  pub sealing-tail : (v : ℕ) → v ≡ sealingAdded (length m) → paddedForSealing m ≡ m ++ take (sealingAdded (length m) - 0) (replicate 16 v)
+  unfolding paddedForSealing
+  sealing-tail v e =
+      let d : sealingAdded (length m) - 0 ≡ sealingAdded (length m) = omega arith in
+      ap {B = List ℕ} (λ t. m ++ t) (sym (rw (d, e) (replicate-front (sealingAdded (length m)) 16 (sealingAdded (length m)) (omega arith))))
 
   -- whole blocks, one at least, and at most 1,048,576 bytes
   pub sealing-blocks : length (paddedForSealing m) ≡ 16 * (length m / 16 + 1)
@@ -155,10 +165,12 @@ module _ (n : ℕ) where
       go false = omega arith
 
 module _ (m : List ℕ) where
-  -- hex 80 and zeros, of which as many stand there as are added
-  pub tag-tail : paddedForTag m ≡ m ++ take (tagAdded (length m)) (0x80 ∷ replicate 15 0)
+  -- what is added, as the code lends it: the front of hex 80 and fifteen zeros
+  pub tag-tail : (k : ℕ) → k ≡ tagAdded (length m) → paddedForTag m ≡ m ++ take (k - 0) (0x80 ∷ replicate 15 0)
   unfolding paddedForTag tagAdded
-  tag-tail = ap {B = List ℕ} (λ t. m ++ t) (go (fillsBlocks (length m)))
+  tag-tail k e =
+      let d : k - 0 ≡ tagAdded (length m) = omega arith in
+      ap {B = List ℕ} (λ t. m ++ t) (go (fillsBlocks (length m)) ∙ ap (λ (j : ℕ). take j (0x80 ∷ replicate 15 0)) (sym d))
     where
       go : (b : Bool) → cond {A = List ℕ} b [] (0x80 ∷ replicate (15 - length m % 16) 0) ≡ take (cond b 0 (16 - length m % 16)) (0x80 ∷ replicate 15 0)
       go true = refl

@@ -27,6 +27,7 @@ pub enum TagCode {
 
 // The longest message, and a block, in bytes.
 const LONGEST: usize = 1048575;
+
 const BLOCK: usize = 16;
 
 // What both codings refuse: the set (2, 3), a message of n bytes (8), the room for it and the
