@@ -1,8 +1,7 @@
 -- The answers of the pad's two codings, case by case (document 01, "Refusals from the input", numbers 2, 3, 8 and 9). The cases
 -- exclude each other and leave none out, so each refusal is given exactly under its condition.
 -- Assumes nothing.
-use mathlib.Core.Path.{_≡_, refl, sym, ap, ap₂, _∙_}
-use mathlib.Core.Bool.{Bool}
+use mathlib.Core.Path.{_≡_, sym, ap, ap₂, _∙_}
 use mathlib.Core.List.{List, [], _∷_, _++_}
 use Prim.Native.Nat.{ℕ, _+_, _*_, _≤_, _<_}
 use native.Mathlib.Omega.{arith}
@@ -10,14 +9,14 @@ use borrow.Author.Tests.{lt-ltb, le-ltb, ltb-false}
 use lib.Dec.{ltb, lit<}
 use lib.ListN.{length, drop}
 use Rattle.lists.specs.Refusals.{first}
-use Rattle.lists.proofs.RefusalLaws.{Clear, first-hit, first-pass, first-clear}
+use Rattle.lists.proofs.RefusalLaws.{Clear, first-hit, first-pass}
 use Rattle.cipher.specs.Refusal.{numberOf, outcomeOf}
 use Rattle.cipher.specs.Coding.{Permutations, LowSet, setOf}
 use Rattle.cipher.specs.Chain.{setLength, LoneSet, setTests}
 use Rattle.cipher.proofs.InverseLaws.{low-set}
 use Rattle.cipher.proofs.ChainTests.{set-tested}
 use Rattle.cipher.proofs.ChainRefusals.{set-length-refused, set-coding-refused, set-taken}
-use Rattle.cipher.proofs.CheckLaws.{Numbered, told-clear, told-refused, set-checked}
+use Rattle.cipher.proofs.CheckLaws.{Numbered, told-clear, told-refused}
 use Rattle.cipher.specs.declared.refusal.Outcome.{Outcome}
 use Rattle.cipher.specs.declared.refusal.Outcome.the-variants.{Done, Refused}
 use Rattle.cipher.specs.declared.refusal.Refusal.{Refusal}

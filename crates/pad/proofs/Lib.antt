@@ -1,3 +1,4 @@
 pub mod PadLaws
 pub mod TextLaws
 pub mod AnswerLaws
+pub mod CodeLaws

@@ -1,5 +1,5 @@
 -- `code::admit` meets its contract. Assumes nothing.
-use mathlib.Core.Path.{_≡_, sym, _∙_}
+use mathlib.Core.Path.{sym, _∙_}
 use borrow.Author.Needs.{needs}
 use Rattle.cipher.specs.Chain.{LoneSet}
 use Rattle.cipher.proofs.CheckLaws.{set-checked}
