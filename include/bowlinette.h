@@ -4,7 +4,7 @@
  *
  * Every function returns 0, or the number of a refusal. Where several refusals apply, the lowest
  * number is returned. After a refusal nothing behind any pointer has changed; after a success only
- * what the function's last pointer refers to has, and nothing if that is to const.
+ * what the function's pointers that are not to const refer to has.
  *
  * All lengths count bytes. No pointer may be null, also where its length is 0, and what is written
  * must not overlap what is read. The functions keep nothing between calls and use no heap, so they
@@ -28,6 +28,7 @@ extern "C" {
 #define BOWLINETTE_REFUSED_WORD_RULE 4      /* word 3 of a set differs from word 0 of the set before */
 #define BOWLINETTE_REFUSED_MASK 5           /* a mask is over 1, or not 0 for half byte 0 */
 #define BOWLINETTE_REFUSED_BLOCK_LENGTH 7   /* the block is not of 16 bytes */
+#define BOWLINETTE_REFUSED_MESSAGE_LENGTH 8 /* the message is over 1,048,575 bytes */
 #define BOWLINETTE_REFUSED_ROOM 9           /* out is shorter than what would be written */
 
 /* A block, in bytes, and the round keys of one round, in 32-bit words. */
@@ -40,6 +41,15 @@ extern "C" {
  */
 #define BOWLINETTE_CODING_LENGTH 16
 #define BOWLINETTE_SET_LENGTH 512
+
+/*
+ * The longest message, and the most bytes that a coding of a message has. The kind says whether a
+ * coding for a tag has padding: 0 no, 1 yes.
+ */
+#define BOWLINETTE_MESSAGE_LENGTH_MAX 1048575
+#define BOWLINETTE_CODE_LENGTH_MAX 1048576
+#define BOWLINETTE_KIND_WHOLE 0
+#define BOWLINETTE_KIND_PADDED 1
 
 /* The tables of one round of a book, in bytes. */
 #define BOWLINETTE_ROUND_LENGTH 18432
@@ -127,6 +137,28 @@ uint32_t bowlinette_build_round(const uint8_t *key, size_t key_length,
                                 const uint8_t *chain, size_t chain_length,
                                 size_t round,
                                 uint8_t *out, size_t out_length);
+
+/*
+ * Codes a message for sealing: pads it by PKCS#7 with 1 to 16 bytes, codes its blocks by the set u
+ * and writes them to the front of out, which may be longer: the bytes behind them stay as they were.
+ * How many were written goes to length.
+ * Refuses 2 (length of u), 3 (its permutations), 8 (message too long), then 9 (out too short).
+ */
+uint32_t bowlinette_code_for_sealing(const uint8_t *u, size_t u_length,
+                                     const uint8_t *message, size_t message_length,
+                                     uint8_t *out, size_t out_length,
+                                     uint64_t *length);
+
+/*
+ * Codes a message for a tag: as above, but nothing is added to a message that fills one or more
+ * whole blocks (kind 0); hex 80 and then zeros to the end of the block are added to others (kind 1).
+ * How many bytes were written goes to length, the kind to kind.
+ * Refuses 2 (length of u), 3 (its permutations), 8 (message too long), then 9 (out too short).
+ */
+uint32_t bowlinette_code_for_tag(const uint8_t *u, size_t u_length,
+                                 const uint8_t *message, size_t message_length,
+                                 uint8_t *out, size_t out_length,
+                                 uint64_t *length, uint8_t *kind);
 
 #ifdef __cplusplus
 }

@@ -1,10 +1,13 @@
 -- The two ways in which a C function ends, by its test on the number.
 -- Assumes nothing.
-use mathlib.Core.Path.{_≡_, refl, ap, _∙_}
+use mathlib.Core.Path.{_≡_, refl, sym, ap, _∙_}
 use mathlib.Core.List.{List}
-use Prim.Native.Nat.{ℕ, zero, suc}
+use Prim.Native.Nat.{ℕ, zero, suc, _<_}
 use native.Mathlib.Omega.{arith}
-use Rattle.exports.specs.Into.{into}
+use Rattle.cipher.specs.Refusal.{numberOf}
+use Rattle.pad.proofs.AnswerLaws.{number-more}
+use Rattle.cipher.specs.declared.refusal.Refusal.{Refusal}
+use Rattle.exports.specs.Into.{into, kept}
 
 -- number n of an answer whose outcome is o
 module _ (answer : ℕ × List ℕ) (o n : ℕ) (v old : List ℕ) (told : (o, v) ≡ answer) (e : n ≡ o) where
@@ -20,3 +23,19 @@ module _ (answer : ℕ × List ℕ) (o n : ℕ) (v old : List ℕ) (told : (o, v
       go : (k : ℕ) → (k ≡ 0 → ⊥) → (k, old) ≡ into (k, v) old
       go zero f = absurd (f refl)
       go (suc k) f = refl
+
+-- an answer with the buffer x, in which t is told
+module _ {A : Type 0} (answer : (ℕ × A) × List ℕ) (t : ℕ × A) (x : List ℕ) (old : A) (told : (t, x) ≡ answer) where
+  pub kept-taken : (value : A) → t ≡ (0, value) → ((0, value), x) ≡ kept answer old
+  kept-taken value e = ap (λ (y : ℕ × A). kept (y, x) old) (sym e) ∙ ap (λ (a : (ℕ × A) × List ℕ). kept a old) told
+
+  pub kept-refused : (nothing : A) (q : Refusal) (n : ℕ) → t ≡ (numberOf q, nothing) → n ≡ numberOf q → ((n, old), x) ≡ kept answer old
+  kept-refused nothing q n e h =
+      ap (λ (k : ℕ). ((k, old), x)) h
+      ∙ go (numberOf q) (number-more q)
+      ∙ ap (λ (y : ℕ × A). kept (y, x) old) (sym e)
+      ∙ ap (λ (a : (ℕ × A) × List ℕ). kept a old) told
+    where
+      go : (k : ℕ) → 0 < k → ((k, old), x) ≡ kept ((k, nothing), x) old
+      go zero l = absurd (omega arith)
+      go (suc k) l = refl

@@ -7,3 +7,8 @@ use Prim.Native.Nat.{ℕ, zero, suc}
 abbrev pub into : ℕ × List ℕ → List ℕ → ℕ × List ℕ
 into (zero, value) old = (zero, value)
 into (suc n, value) old = (suc n, old)
+
+-- the same of an answer that comes with a buffer: what is told stands behind pointers of its own
+abbrev pub kept : {A : Type 0} → (ℕ × A) × List ℕ → A → (ℕ × A) × List ℕ
+kept ((zero, told), out) old = ((zero, told), out)
+kept ((suc n, told), out) old = ((suc n, old), out)

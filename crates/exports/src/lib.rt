@@ -3,12 +3,15 @@
 ghost use mathlib.Core.Path.{_≡_};
 ghost use Rattle.exports.specs.Chain.{chainAnswer};
 ghost use Rattle.cipher.specs.Answers.{blockTold, encipherAnswer, decipherAnswer, roundsAnswer, rowAnswer, setChecked, chainChecked};
-ghost use Rattle.exports.specs.Into.{into};
+ghost use Rattle.exports.specs.Into.{into, kept};
 ghost use Rattle.book.specs.Answers.{buildAnswer, roundAnswer};
+ghost use Rattle.pad.specs.Answers.{sealingAnswer, tagAnswer};
 use cipher::lea::BlockAnswer;
 use cipher::refusal::Refusal;
 use cipher::size::KeySize;
 use cipher::size::SizeFound;
+use pad::code::SealingCode;
+use pad::code::TagCode;
 
 // An answer's block into out, and its number.
 fn deliver(a: BlockAnswer, out: &mut [u8; 16]) -> u32
@@ -104,6 +107,50 @@ pub extern "C" fn bowlinette_build_round(
 {
     let outcome = book::build::build_round(key, chain, round, out);
     outcome.number()
+}
+
+// A message coded for sealing by the set u, into the front of out, and the length of that into
+// length.
+#[no_mangle]
+pub extern "C" fn bowlinette_code_for_sealing(
+    u: &[u8],
+    message: &[u8],
+    out: &mut [u8],
+    length: &mut u64,
+) -> u32
+    ensures { λ r. ⌜ ((r, now (length .exit)), now (out .exit)) ≡ kept (sealingAnswer (now (u .entry)) (now (message .entry)) (now (out .entry))) (now (length .entry)) ⌝ }
+{
+    let code = pad::code::code_for_sealing(u, message, out);
+    match code {
+        SealingCode::Length(n) => {
+            *length = n as u64;
+            0
+        }
+        SealingCode::Refused(why) => why.number(),
+    }
+}
+
+// A message coded for a tag by the set u, into the front of out, the length of that into length,
+// and its kind into kind.
+#[no_mangle]
+pub extern "C" fn bowlinette_code_for_tag(
+    u: &[u8],
+    message: &[u8],
+    out: &mut [u8],
+    length: &mut u64,
+    kind: &mut u8,
+) -> u32
+    ensures { λ r. ⌜ ((r, (now (length .exit), now (kind .exit))), now (out .exit)) ≡ kept (tagAnswer (now (u .entry)) (now (message .entry)) (now (out .entry))) (now (length .entry), now (kind .entry)) ⌝ }
+{
+    let code = pad::code::code_for_tag(u, message, out);
+    match code {
+        TagCode::Coded(n, k) => {
+            *length = n as u64;
+            *kind = k;
+            0
+        }
+        TagCode::Refused(why) => why.number(),
+    }
 }
 
 // For the benchmark: the chaining value of CMAC after the whole blocks of a text, into out.

@@ -119,7 +119,8 @@ module _ (u m out : List ℕ) where
 
 -- ---- for the code: what the number tells that both codings get from `admit`
 
-number-more : (q : Refusal) → 0 < numberOf q
+-- the number of a refusal is never 0
+pub number-more : (q : Refusal) → 0 < numberOf q
 number-more KeyLength = lit< tt
 number-more ChainLength = lit< tt
 number-more NoPermutation = lit< tt

@@ -61,6 +61,25 @@ mod c {
             out: *mut u8,
             out_length: usize,
         ) -> u32;
+        pub fn bowlinette_code_for_sealing(
+            u: *const u8,
+            u_length: usize,
+            message: *const u8,
+            message_length: usize,
+            out: *mut u8,
+            out_length: usize,
+            length: *mut u64,
+        ) -> u32;
+        pub fn bowlinette_code_for_tag(
+            u: *const u8,
+            u_length: usize,
+            message: *const u8,
+            message_length: usize,
+            out: *mut u8,
+            out_length: usize,
+            length: *mut u64,
+            kind: *mut u8,
+        ) -> u32;
     }
 }
 
@@ -170,6 +189,46 @@ pub fn build_round(key: &[u8], chain: &[u8], round: usize, out: &mut [u8]) -> u3
             round,
             out.as_mut_ptr(),
             out.len(),
+        )
+    }
+}
+
+/// A message coded for sealing, to the front of out, and the length of that, into length.
+#[inline]
+pub fn code_for_sealing(u: &[u8], message: &[u8], out: &mut [u8], length: &mut u64) -> u32 {
+    unsafe {
+        c::bowlinette_code_for_sealing(
+            u.as_ptr(),
+            u.len(),
+            message.as_ptr(),
+            message.len(),
+            out.as_mut_ptr(),
+            out.len(),
+            length,
+        )
+    }
+}
+
+/// A message coded for a tag, to the front of out, and the length and the kind of that, into length
+/// and kind.
+#[inline]
+pub fn code_for_tag(
+    u: &[u8],
+    message: &[u8],
+    out: &mut [u8],
+    length: &mut u64,
+    kind: &mut u8,
+) -> u32 {
+    unsafe {
+        c::bowlinette_code_for_tag(
+            u.as_ptr(),
+            u.len(),
+            message.as_ptr(),
+            message.len(),
+            out.as_mut_ptr(),
+            out.len(),
+            length,
+            kind,
         )
     }
 }

@@ -37,6 +37,9 @@ fn due() -> Vec<String> {
     let words: String = row.iter().map(|w| format!(" {w:08x}")).collect();
     lines.push(format!("1{words}"));
     lines.push("1 1 1".into());
+    lines.push(line(Ok(*b"in ink\x0a\x0a\x0a\x0a\x0a\x0a\x0a\x0a\x0a\x0a")));
+    lines.push(line(Ok(*b"in ink\x80\0\0\0\0\0\0\0\0\0")));
+    lines.push("1 1 1 1 1 1".into());
     lines
 }
 

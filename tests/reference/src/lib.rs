@@ -4,6 +4,7 @@
 pub mod book;
 pub mod chain;
 pub mod lea;
+pub mod pad;
 pub mod refusal;
 pub mod size;
 

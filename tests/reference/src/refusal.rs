@@ -12,5 +12,7 @@ pub const WORD_RULE: u32 = 4;
 pub const MASK: u32 = 5;
 /// A block is not of 16 bytes.
 pub const BLOCK_LENGTH: u32 = 7;
+/// A message has over 1,048,575 bytes.
+pub const MESSAGE_LENGTH: u32 = 8;
 /// The output is shorter than what is to be written.
 pub const SHORT_OUTPUT: u32 = 9;

@@ -28,6 +28,29 @@ static void checks(void)
     printf(" %d\n", bowlinette_check_chain(16, set, sizeof set) == BOWLINETTE_REFUSED_NO_PERMUTATION);
 }
 
+/* A short message and one of a block, coded for sealing and for a tag by identity codings. */
+static void codes(void)
+{
+    static const uint8_t message[BOWLINETTE_BLOCK_LENGTH] = "in ink";
+    uint8_t set[BOWLINETTE_SET_LENGTH], out[BOWLINETTE_BLOCK_LENGTH], kind = 9;
+    uint64_t length = 0;
+    uint32_t number;
+    size_t i;
+
+    for (i = 0; i < sizeof set; i++)
+        set[i] = (uint8_t)(i % BOWLINETTE_CODING_LENGTH);
+    number = bowlinette_code_for_sealing(set, sizeof set, message, 6, out, sizeof out, &length);
+    show(number, out);
+    number = bowlinette_code_for_tag(set, sizeof set, message, 6, out, sizeof out, &length, &kind);
+    show(number, out);
+    printf("%d %d", length == sizeof out, kind == BOWLINETTE_KIND_PADDED);
+    number = bowlinette_code_for_tag(set, sizeof set, message, 16, out, sizeof out, &length, &kind);
+    printf(" %d %d", number == BOWLINETTE_DONE, kind == BOWLINETTE_KIND_WHOLE);
+    number = bowlinette_code_for_sealing(set, sizeof set, message, 16, out, sizeof out, &length);
+    printf(" %d", number == BOWLINETTE_REFUSED_ROOM);
+    printf(" %d\n", BOWLINETTE_CODE_LENGTH_MAX == BOWLINETTE_MESSAGE_LENGTH_MAX + 1);
+}
+
 int main(void)
 {
     uint8_t key[BOWLINETTE_KEY_LENGTH_256], block[BOWLINETTE_BLOCK_LENGTH + 1];
@@ -58,5 +81,6 @@ int main(void)
         printf(" %08lx", (unsigned long)row[i]);
     printf("\n");
     checks();
+    codes();
     return 0;
 }
