@@ -112,7 +112,10 @@ fn accepted(uses: Use, u: &[u8], message: &[u8], room: usize) {
     let (n, total) = (message.len(), due(uses, message.len()));
     let left = both(uses, u, message, room);
     assert_eq!((left.number, left.length), (0, total as u64), "{n} bytes");
-    assert!(left.out[total..].iter().all(|&x| x == FILL), "past the code");
+    assert!(
+        left.out[total..].iter().all(|&x| x == FILL),
+        "past the code"
+    );
     let text = decoded(u, &left.out[..total]);
     assert!(text[..n] == *message, "{n} bytes, decoded");
     let added = &text[n..];
@@ -137,7 +140,12 @@ fn messages_of_every_length() {
         for n in (0..=100).chain([255, 256, 257, 9_412]) {
             let message = random.bytes(n);
             for uses in BOTH {
-                accepted(uses, &u, &message, due(uses, n) + [0, 1, 15, 16, 100][round % 5]);
+                accepted(
+                    uses,
+                    &u,
+                    &message,
+                    due(uses, n) + [0, 1, 15, 16, 100][round % 5],
+                );
             }
         }
     }
