@@ -1,6 +1,6 @@
 //! Times the proved library and the reference in one process and prints how they compare.
 
-use reference::{book, chain, lea, Size};
+use reference::{book, chain, lea, pad, Size};
 use std::hint::black_box as hide;
 use std::time::{Duration, Instant};
 
@@ -29,7 +29,7 @@ fn calls(f: &mut impl FnMut()) -> u32 {
 
 /// Prints a row. The two versions take turns, and the fastest run of each counts: other work on
 /// the machine can only make a run slower.
-fn measure(name: &str, size: Size, mut rattle: impl FnMut(), mut rust: impl FnMut()) {
+fn measure(name: &str, bytes: usize, mut rattle: impl FnMut(), mut rust: impl FnMut()) {
     let (n, m) = (calls(&mut rattle), calls(&mut rust));
     let (mut a, mut b) = (f64::INFINITY, f64::INFINITY);
     let runs = if n == 1 { RUNS / 50 } else { RUNS };
@@ -37,8 +37,8 @@ fn measure(name: &str, size: Size, mut rattle: impl FnMut(), mut rust: impl FnMu
         a = a.min(timed(n, &mut rattle));
         b = b.min(timed(m, &mut rust));
     }
-    let (key, ratio) = (size.key_bytes(), a / b);
-    println!("{name:<12} {key:>9} {a:>12.1} {b:>12.1} {ratio:>8.2}");
+    let ratio = a / b;
+    println!("{name:<12} {bytes:>9} {a:>12.1} {b:>12.1} {ratio:>8.2}");
 }
 
 /// Enciphering and deciphering from key and block, and a whole schedule: neither version knows which
@@ -50,19 +50,19 @@ fn cipher(size: Size) {
     let (mut out, mut row) = ([0; 16], [0; 6]);
     measure(
         "encipher",
-        size,
+        size.key_bytes(),
         || _ = hide(bowlinette::encipher(hide(key), hide(&text), hide(&mut out))),
         || _ = hide(&lea::encipher(hide(key), hide(&text))),
     );
     measure(
         "decipher",
-        size,
+        size.key_bytes(),
         || _ = hide(bowlinette::decipher(hide(key), hide(&text), hide(&mut out))),
         || _ = hide(&lea::decipher(hide(key), hide(&text))),
     );
     measure(
         "schedule",
-        size,
+        size.key_bytes(),
         || _ = hide(bowlinette::round_keys(hide(key), hide(0), hide(&mut row))),
         || _ = hide(&lea::round_keys(hide(key), hide(0))),
     );
@@ -79,7 +79,7 @@ fn mac_chain(size: Size) {
     let mut out = [0; 16];
     measure(
         "chain 65536",
-        size,
+        size.key_bytes(),
         || {
             _ = hide(bowlinette::bench_chain(
                 hide(key),
@@ -104,29 +104,83 @@ fn book(size: Size) {
     let (mut out, mut other) = (vec![0; size.book_bytes()], vec![0; size.book_bytes()]);
     measure(
         "check chain",
-        size,
+        size.key_bytes(),
         || _ = hide(bowlinette::check_chain(hide(key.len()), hide(chain))),
         || _ = hide(chain::check(hide(key.len()), hide(chain)).is_ok()),
     );
     measure(
         "build",
-        size,
+        size.key_bytes(),
         || _ = hide(bowlinette::build(hide(key), hide(chain), hide(&mut out))),
         || _ = hide(book::build(hide(key), hide(chain), hide(&mut other))),
     );
     assert_eq!(out, other);
 }
 
+/// Coding a message of n bytes for sealing and for a tag, the check of the set included.
+fn codes(n: usize) {
+    let u: Vec<u8> = (0..chain::SET)
+        .map(|i| (i * 7 + i / 16) as u8 % 16)
+        .collect();
+    let message: Vec<u8> = (0..n as u32)
+        .map(|i| (i.wrapping_mul(2_654_435_761) >> 24) as u8)
+        .collect();
+    let (u, message) = (u.as_slice(), message.as_slice());
+    let (mut out, mut other) = (vec![0; n + 16], vec![0; n + 16]);
+    let (mut length, mut kind) = (0, 0);
+    measure(
+        "code to seal",
+        n,
+        || {
+            _ = hide(bowlinette::code_for_sealing(
+                hide(u),
+                hide(message),
+                hide(&mut out),
+                hide(&mut length),
+            ))
+        },
+        || {
+            _ = hide(pad::code_for_sealing(
+                hide(u),
+                hide(message),
+                hide(&mut other),
+            ))
+        },
+    );
+    assert_eq!(out, other);
+    measure(
+        "code to tag",
+        n,
+        || {
+            _ = hide(bowlinette::code_for_tag(
+                hide(u),
+                hide(message),
+                hide(&mut out),
+                hide(&mut length),
+                hide(&mut kind),
+            ))
+        },
+        || _ = hide(pad::code_for_tag(hide(u), hide(message), hide(&mut other))),
+    );
+    assert_eq!(out, other);
+}
+
+/// The head of the rows; what the number in front counts.
+fn heading(bytes: &str) {
+    let (rattle, rust, ratio) = ("Rattle", "Rust", "ratio");
+    println!("{:<12} {bytes:>9} {rattle:>12} {rust:>12} {ratio:>8}", "");
+}
+
 fn main() {
     println!("ns per call, the fastest of many runs of each version");
-    let (key, ratio) = ("key bytes", "ratio");
-    println!(
-        "{:<12} {key:>9} {:>12} {:>12} {ratio:>8}",
-        "", "Rattle", "Rust"
-    );
+    heading("key bytes");
     for size in Size::ALL {
         cipher(size);
         mac_chain(size);
         book(size);
+    }
+    heading("message");
+    for n in [9_412, 1_048_575] {
+        codes(n);
     }
 }
