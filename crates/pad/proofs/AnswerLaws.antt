@@ -11,7 +11,7 @@ use lib.ListN.{length, drop}
 use Rattle.lists.specs.Refusals.{first}
 use Rattle.lists.proofs.RefusalLaws.{Clear, first-hit, first-pass}
 use Rattle.cipher.specs.Refusal.{numberOf, outcomeOf}
-use Rattle.cipher.specs.Coding.{Permutations, LowSet, setOf}
+use Rattle.cipher.specs.Coding.{Permutations, LowSet, setOf, byteCoded}
 use Rattle.cipher.specs.Chain.{setLength, LoneSet, setTests}
 use Rattle.cipher.proofs.InverseLaws.{low-set}
 use Rattle.cipher.proofs.ChainTests.{set-tested}
@@ -21,7 +21,8 @@ use Rattle.cipher.specs.declared.refusal.Outcome.{Outcome}
 use Rattle.cipher.specs.declared.refusal.Outcome.the-variants.{Done, Refused}
 use Rattle.cipher.specs.declared.refusal.Refusal.{Refusal}
 use Rattle.cipher.specs.declared.refusal.Refusal.the-variants.{KeyLength, ChainLength, NoPermutation, WordRule, MaskByte, BookLength, BlockLength, MessageLength, ShortBuffer, KindByte, BadPadding, SessionFinished, SessionFull}
-use Rattle.pad.specs.Padding.{codedText, codedPart, paddedForSealing, paddedForTag, kindOf}
+use Rattle.pad.specs.Images.{codedPart}
+use Rattle.pad.specs.Padding.{codedText, paddedForSealing, paddedForTag, kindOf}
 use Rattle.pad.specs.Answers.{longest, codingTests, codedInto, sealingAnswer, tagAnswer}
 use Rattle.pad.proofs.TextLaws.{part-blocks}
 
@@ -175,11 +176,11 @@ module _ {A : Type 0} (nothing told : A) (u m text out : List ℕ) (total : ℕ)
       ∙ ap (λ (k : ℕ). first (codingTests u (length m) k (length out)) (λ q. ((q, nothing), out)) ((0, told), codedText (setOf u) text ++ drop (length text) out)) (sym size)
 
   pub answer-coded : (tail end : List ℕ) (n k : ℕ) (said : A) → r ≡ Done → text ≡ m ++ tail → length text ≡ 16 * n
-      → end ≡ codedPart u 0 (m ++ tail) ++ drop k out → k ≡ total → said ≡ told
+      → end ≡ codedPart (byteCoded u) 0 (m ++ tail) ++ drop k out → k ≡ total → said ≡ told
       → ((0, said), end) ≡ codedInto nothing told u m text out
   answer-coded tail end n k said d t b w i s =
       let h = admitted u (length m) total (length out) r e d in
       ap₂ (λ (a : A) (x : List ℕ). ((0, a), x)) s
       (w
-      ∙ ap₂ {C = List ℕ} (λ (a : List ℕ) (j : ℕ). a ++ drop j out) (ap (codedPart u 0) (sym t) ∙ part-blocks u n text b) (i ∙ sym size))
+      ∙ ap₂ {C = List ℕ} (λ (a : List ℕ) (j : ℕ). a ++ drop j out) (ap (codedPart (byteCoded u) 0) (sym t) ∙ part-blocks u n text b) (i ∙ sym size))
       ∙ sym (coded-done nothing told u m text out (h .0) (h .1) (omega (arith, h .2)))

@@ -6,9 +6,8 @@ use mathlib.Core.List.{List, [], _∷_, _++_, map, flatten}
 use Prim.Native.Nat.{ℕ, _+_, _-_, _%_, _≤_, _<_}
 use lib.Dec.{eqb}
 use lib.ListN.{length, getD, take, replicate}
-use Rattle.lists.specs.Tabulation.{tab}
 use Rattle.lists.specs.Blocks.{blocks}
-use Rattle.cipher.specs.Coding.{Set, coded, decoded, byteCoded}
+use Rattle.cipher.specs.Coding.{Set, coded, decoded}
 
 -- ---- for sealing: PKCS#7
 
@@ -61,7 +60,3 @@ codedText S text = flatten (map (coded S) (blocks text))
 
 unfoldable pub decodedText : Set → List ℕ → List ℕ
 decodedText S text = flatten (map (decoded S) (blocks text))
-
--- a part of a text, which begins at byte `from` of it, coded byte by byte by the set in s
-unfoldable pub codedPart : List ℕ → ℕ → List ℕ → List ℕ
-codedPart s from part = tab (length part) (λ i. byteCoded s ((from + i) % 16) (getD part i 0))

@@ -1,54 +1,40 @@
 -- `text::code_part` meets its contract. The invariant: i bytes are written from place `from` on, and the rest is as it was.
 -- Assumes nothing.
-use mathlib.Core.Path.{_≡_, refl}
+use mathlib.Core.Path.{_≡_, refl, ap}
 use mathlib.Core.List.{_++_}
-use Prim.Native.Nat.{_+_, _-_, _*_, _/_, _%_, _≤_}
+use Prim.Native.Nat.{_+_, _-_, _%_, _≤_}
 use native.Mathlib.Omega.{arith}
 use borrow.Author.Needs.{needs}
 use lib.ListN.{length, getD, take, drop, length-set}
 use Rattle.lists.specs.Tabulation.{tab}
-use Rattle.cipher.specs.Coding.{byteCoded}
-use Rattle.pad.specs.Padding.{codedPart}
-use Rattle.pad.proofs.TextLaws.{byte-is, part-turn, part-full, part-none}
+use Rattle.pad.specs.Images.{imageAt, codedPart}
+use Rattle.pad.proofs.TextLaws.{part-turn, part-full, part-none}
 use Rattle.pad.proofs.text.code_part.Statement.{statement}
 use Rattle.pad.proofs.text.code_part.Tie as tie
 
 abbrev Inv-loop : tie.InvT-loop
-Inv-loop set from part out₀ n i₀ out i = (i ≤ n) × (n ≡ length part) × (length out ≡ length out₀) × (out ≡ (take from out₀ ++ tab i (λ k. byteCoded set ((from + k) % 16) (getD part k 0))) ++ drop (from + i) out₀)
+Inv-loop images from part out₀ n i₀ out i = (i ≤ n) × (n ≡ length part) × (length out ≡ length out₀) × (out ≡ (take from out₀ ++ tab i (λ k. imageAt images ((from + k) % 16) (getD part k 0))) ++ drop (from + i) out₀)
 
 abbrev μ-loop : tie.MeasureT-loop
-μ-loop set from part out₀ n i₀ out i = n - i
+μ-loop images from part out₀ n i₀ out i = n - i
 
 loop-holds : tie.Need-loop-holds Inv-loop μ-loop
 loop-holds c =
     let a = c .before .before .before .args in
-    (omega arith, refl, refl, part-none (λ k. byteCoded (a .set .now) ((a .from + k) % 16) (getD (a .part .now) k 0)) (a .out .now) (a .from))
+    (omega arith, refl, refl, part-none (λ k. imageAt (a .images .now) ((a .from + k) % 16) (getD (a .part .now) k 0)) (a .out .now) (a .from))
 
-mul-out : tie.Need-mul-out Inv-loop μ-loop
-mul-out c =
-    let l = c .before .before .before .before .before in
-    let s = l .before .before .before .before in
-    let w = c .before .before .wide in
-    omega (arith, w .ensures .1, s .pre .1 (32 * ((s .args .from + l .loop .i) % 16) + 16 + w .result / 16) (omega (arith, w .ensures .1)))
-
-add-out-4 : tie.Need-add-out-4 Inv-loop μ-loop
-add-out-4 c =
-    let l = c .before .before .before .before .before in
-    let s = l .before .before .before .before in
-    let w = c .before .before .wide in
-    let k = 32 * ((s .args .from + l .loop .i) % 16) in
-    omega (arith, w .ensures .1, s .pre .1 (k + w .result % 16) (omega arith), s .pre .1 (k + 16 + w .result / 16) (omega (arith, w .ensures .1)))
+shared-slice-read-out : tie.Need-shared-slice-read-out Inv-loop μ-loop
+shared-slice-read-out c = omega (arith, c .before .wide .ensures .1)
 
 loop-again : tie.Need-loop-again Inv-loop μ-loop
 loop-again c =
-    let l = c .before .before .before .before .before in
-    let a = l .before .before .before .before .args in
-    let w = c .before .before .wide in (
+    let l = c .before .before .before .before in
+    let a = l .before .before .before .before .args in (
       omega arith,
       l .loop .inv .1,
       simp length-set (l .loop .inv .2),
-      part-turn (λ k. byteCoded (a .set .now) ((a .from + k) % 16) (getD (a .part .now) k 0)) (a .out .now) (l .loop .out) (a .from) (l .loop .i) (length (a .part .now)) (l .before .before .before .before .pre .2) (l .loop .inv .3) _
-          (byte-is (a .set .now) ((a .from + l .loop .i) % 16) (getD (a .part .now) (l .loop .i) 0) (w .result) (w .ensures .0) (w .ensures .1)) (omega arith),
+      part-turn (λ k. imageAt (a .images .now) ((a .from + k) % 16) (getD (a .part .now) k 0)) (a .out .now) (l .loop .out) (a .from) (l .loop .i) (length (a .part .now)) (l .before .before .before .before .pre .1) (l .loop .inv .3) _
+          (ap (imageAt (a .images .now) ((a .from + l .loop .i) % 16)) (c .before .wide .ensures .0)) (omega arith),
     )
 
 same-length : tie.Need-same-length Inv-loop μ-loop
@@ -59,7 +45,7 @@ unfolding codedPart
 returns c =
     let l = c .before in
     let a = l .before .before .before .before .args in
-    part-full (λ k. byteCoded (a .set .now) ((a .from + k) % 16) (getD (a .part .now) k 0)) (a .out .now) (l .loop .out) (a .from) (l .loop .i) (length (a .part .now)) (l .before .before .before .before .pre .2) (l .loop .inv .3) (omega arith)
+    part-full (λ k. imageAt (a .images .now) ((a .from + k) % 16) (getD (a .part .now) k 0)) (a .out .now) (l .loop .out) (a .from) (l .loop .i) (length (a .part .now)) (l .before .before .before .before .pre .1) (l .loop .inv .3) (omega arith)
 
 pub code-part-spec : {M : Type 1} → statement M
-code-part-spec = tie.close (tie.spec Inv-loop μ-loop loop-holds (λ c. search needs) (λ c. search needs) (λ c. search needs) (λ c. search needs) (λ c κs. search needs) (λ c. search needs) (λ c. search needs) (λ c. search needs) (λ c. search needs) (λ c. search needs) mul-out add-out-4 (λ c. search needs) (λ c. search needs) (λ c. search needs) (λ c. search needs) loop-again same-length returns)
+code-part-spec = tie.close (tie.spec Inv-loop μ-loop loop-holds (λ c. search needs) (λ c. search needs) (λ c. search needs) (λ c κs. search needs) (λ c. search needs) shared-slice-read-out (λ c. search needs) (λ c. search needs) (λ c. search needs) (λ c. search needs) loop-again same-length returns)
