@@ -1,5 +1,6 @@
 pub mod WordLaws
 pub mod KeySizeLaws
+pub mod TurnSums
 pub mod ScheduleLaws
 pub mod Schedule32
 pub mod LeaLaws

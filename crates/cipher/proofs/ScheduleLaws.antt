@@ -1,22 +1,27 @@
--- Laws of the key schedule: one step and one row more in a loop that fills the rows, and that every round key is a word.
+-- Laws of the key schedule: one step and one row more in a loop that fills the rows, that every round key is a word, and
+-- the queue of δ that the code takes its steps' constants from.
 -- Assumes nothing.
-use mathlib.Core.Path.{_≡_, refl, sym, ap, _∙_}
+use mathlib.Core.Path.{_≡_, refl, sym, ap, ap₂, _∙_}
 use Prim.Native.Nat.{ℕ, zero, suc, _+_, _-_, _*_, _%_, _^_, _≤_, _<_}
+use native.Mathlib.Nat.{zero-add, add-mod-right}
 use native.Mathlib.Omega.{arith}
 use native.Mathlib.Numerals.{add-one}
 use mathlib.Core.List.{List, [], _∷_, _++_}
 use lib.Dec.{lit<}
 use lib.ListN.{getD, length, set, replicate, length-append}
 use Rattle.lists.specs.Blocks.{Below, Bytes}
+use Rattle.lists.specs.Tabulation.{tab}
 use Rattle.lists.proofs.PartLaws.{fill-more}
-use Rattle.cipher.specs.Word.{add, turnLeft, word, wordAt}
+use Rattle.lists.proofs.TabulationLaws.{getD-tab, tab-ext}
+use Rattle.cipher.specs.Word.{add, rol, word, wordAt}
 use Rattle.cipher.specs.Schedule.{delta, deltaOf, turns, mixed, mixedFour, mixedRow, step16, row16, step24, row24, place, mixAt, step32, row32, words4, words6, words8, stepped, rowsOf, blank, filled, schedule}
 use Rattle.cipher.specs.KeySize.{rounds}
 use Rattle.cipher.specs.declared.size.KeySize.{KeySize}
 use Rattle.cipher.specs.declared.size.KeySize.the-variants.{Bytes16, Bytes24, Bytes32}
 use Rattle.cipher.proofs.WordLaws.{left-word, add-word}
+use Rattle.cipher.proofs.TurnSums.{rol-sum}
 
--- ---- one turn of the loop
+-- ---- one step and one row more
 
 module _ (step row : ℕ → List ℕ → List ℕ) where
   pub stepped-more : (i : ℕ) (t : List ℕ) → stepped step (i + 1) t ≡ step i (stepped step i t)
@@ -28,93 +33,16 @@ module _ (step row : ℕ → List ℕ → List ℕ) where
   rows-length zero t = refl
   rows-length (suc n) t = length-append (rowsOf step row n t) _ ∙ add-one _ ∙ ap suc (rows-length n t)
 
-  -- the row of step i stored at place i of the first i rows
-  pub rows-more : (i : ℕ) (t : List ℕ) → i < 32 → set (filled step row i t) i (row i (stepped step (i + 1) t)) ≡ filled step row (i + 1) t
+  rows-more : (i : ℕ) (t : List ℕ) → i < 32 → set (filled step row i t) i (row i (stepped step (i + 1) t)) ≡ filled step row (i + 1) t
   unfolding rowsOf
   rows-more i t h =
       fill-more 32 i blank (row i (stepped step (i + 1) t)) (rowsOf step row i t) (rows-length i t) h
       ∙ rw add-one
 
-  -- the row of step m stored at its place, the next step being n
-  pub stored : (m n : ℕ) (t : List ℕ) (rows : List (List ℕ)) (a : List ℕ) → m + 1 ≡ n → m < 32 → rows ≡ filled step row m t
-      → a ≡ row m (stepped step n t) → set rows m a ≡ filled step row n t
-  stored m n t rows a e h er ea =
-      (λ k. set (er k) m (ea k))
-      ∙ ap (λ (k : ℕ). set (filled step row m t) m (row m (stepped step k t))) (sym e)
-      ∙ rows-more m t h
-      ∙ ap (λ (k : ℕ). filled step row k t) e
-
--- a step whose δ the code names: δk of w constants
-module _ (mix : ℕ → ℕ → List ℕ → List ℕ) (w : ℕ) (t₀ : List ℕ) where
-  pub next : (k m n : ℕ) (t u : List ℕ) → m % w ≡ k → m + 1 ≡ n → t ≡ stepped (λ i. mix (deltaOf w i) i) m t₀
-      → u ≡ mix (getD delta k 0) m t → u ≡ stepped (λ i. mix (deltaOf w i) i) n t₀
-  next k m n t u e f et eu =
-      eu
-      ∙ (λ z. mix (getD delta (sym e z) 0) m (et z))
-      ∙ sym (stepped-more (λ i. mix (deltaOf w i) i) (λ i t. t) m t₀)
-      ∙ ap (λ (l : ℕ). stepped (λ i. mix (deltaOf w i) i) l t₀) f
-
--- a turn of the loop that makes four steps, each with its own δ
-pub turn16 : (j : ℕ) (t₀ t : List ℕ) (rows : List (List ℕ)) (a b c d : List ℕ) → j < 6 → t ≡ stepped step16 (4 * j) t₀ → rows ≡ filled step16 row16 (4 * j) t₀
-    → a ≡ mixedFour (getD delta 0 0) (4 * j) t
-    → b ≡ mixedFour (getD delta 1 0) (4 * j + 1) a
-    → c ≡ mixedFour (getD delta 2 0) (4 * j + 2) b
-    → d ≡ mixedFour (getD delta 3 0) (4 * j + 3) c
-    → (d ≡ stepped step16 (4 * (j + 1)) t₀) × (set (set (set (set rows (4 * j) (row16 (4 * j) a)) (4 * j + 1) (row16 (4 * j + 1) b)) (4 * j + 2) (row16 (4 * j + 2) c)) (4 * j + 3) (row16 (4 * j + 3) d) ≡ filled step16 row16 (4 * (j + 1)) t₀)
-turn16 j t₀ t rows a b c d h et er ea eb ec ed =
-    let p0 = next mixedFour 4 t₀ 0 (4 * j) (4 * j + 1) _ _ (omega arith) (omega arith) et ea in
-    let p1 = next mixedFour 4 t₀ 1 (4 * j + 1) (4 * j + 2) _ _ (omega arith) (omega arith) p0 eb in
-    let p2 = next mixedFour 4 t₀ 2 (4 * j + 2) (4 * j + 3) _ _ (omega arith) (omega arith) p1 ec in
-    let p3 = next mixedFour 4 t₀ 3 (4 * j + 3) (4 * j + 4) _ _ (omega arith) (omega arith) p2 ed in
-    let r0 = stored step16 row16 (4 * j) (4 * j + 1) t₀ _ _ (omega arith) (omega arith) er (ap (row16 (4 * j)) p0) in
-    let r1 = stored step16 row16 (4 * j + 1) (4 * j + 2) t₀ _ _ (omega arith) (omega arith) r0 (ap (row16 (4 * j + 1)) p1) in
-    let r2 = stored step16 row16 (4 * j + 2) (4 * j + 3) t₀ _ _ (omega arith) (omega arith) r1 (ap (row16 (4 * j + 2)) p2) in
-    let r3 = stored step16 row16 (4 * j + 3) (4 * j + 4) t₀ _ _ (omega arith) (omega arith) r2 (ap (row16 (4 * j + 3)) p3) in
-    let e : 4 * j + 4 ≡ 4 * (j + 1) = omega arith in
-    (p3 ∙ ap (λ (n : ℕ). stepped step16 n t₀) e, r3 ∙ ap (λ (n : ℕ). filled step16 row16 n t₀) e)
-
--- a turn of the loop that makes six steps, each with its own δ
-pub turn24 : (j : ℕ) (t₀ t : List ℕ) (rows : List (List ℕ)) (a b c d e f : List ℕ) → j < 4 → t ≡ stepped step24 (6 * j) t₀ → rows ≡ filled step24 row24 (6 * j) t₀
-    → a ≡ mixedRow (getD delta 0 0) (6 * j) t
-    → b ≡ mixedRow (getD delta 1 0) (6 * j + 1) a
-    → c ≡ mixedRow (getD delta 2 0) (6 * j + 2) b
-    → d ≡ mixedRow (getD delta 3 0) (6 * j + 3) c
-    → e ≡ mixedRow (getD delta 4 0) (6 * j + 4) d
-    → f ≡ mixedRow (getD delta 5 0) (6 * j + 5) e
-    → (f ≡ stepped step24 (6 * (j + 1)) t₀) × (set (set (set (set (set (set rows (6 * j) a) (6 * j + 1) b) (6 * j + 2) c) (6 * j + 3) d) (6 * j + 4) e) (6 * j + 5) f ≡ filled step24 row24 (6 * (j + 1)) t₀)
-turn24 j t₀ t rows a b c d e f h et er ea eb ec ed ee ef =
-    let p0 = next mixedRow 6 t₀ 0 (6 * j) (6 * j + 1) _ _ (omega arith) (omega arith) et ea in
-    let p1 = next mixedRow 6 t₀ 1 (6 * j + 1) (6 * j + 2) _ _ (omega arith) (omega arith) p0 eb in
-    let p2 = next mixedRow 6 t₀ 2 (6 * j + 2) (6 * j + 3) _ _ (omega arith) (omega arith) p1 ec in
-    let p3 = next mixedRow 6 t₀ 3 (6 * j + 3) (6 * j + 4) _ _ (omega arith) (omega arith) p2 ed in
-    let p4 = next mixedRow 6 t₀ 4 (6 * j + 4) (6 * j + 5) _ _ (omega arith) (omega arith) p3 ee in
-    let p5 = next mixedRow 6 t₀ 5 (6 * j + 5) (6 * j + 6) _ _ (omega arith) (omega arith) p4 ef in
-    let r0 = stored step24 row24 (6 * j) (6 * j + 1) t₀ _ _ (omega arith) (omega arith) er p0 in
-    let r1 = stored step24 row24 (6 * j + 1) (6 * j + 2) t₀ _ _ (omega arith) (omega arith) r0 p1 in
-    let r2 = stored step24 row24 (6 * j + 2) (6 * j + 3) t₀ _ _ (omega arith) (omega arith) r1 p2 in
-    let r3 = stored step24 row24 (6 * j + 3) (6 * j + 4) t₀ _ _ (omega arith) (omega arith) r2 p3 in
-    let r4 = stored step24 row24 (6 * j + 4) (6 * j + 5) t₀ _ _ (omega arith) (omega arith) r3 p4 in
-    let r5 = stored step24 row24 (6 * j + 5) (6 * j + 6) t₀ _ _ (omega arith) (omega arith) r4 p5 in
-    let e : 6 * j + 6 ≡ 6 * (j + 1) = omega arith in
-    (p5 ∙ ap (λ (n : ℕ). stepped step24 n t₀) e, r5 ∙ ap (λ (n : ℕ). filled step24 row24 n t₀) e)
-
--- the last four steps of a key of 24 bytes
-pub last24 : (t₀ t : List ℕ) (rows : List (List ℕ)) (a b c d : List ℕ) → t ≡ stepped step24 24 t₀ → rows ≡ filled step24 row24 24 t₀
-    → a ≡ mixedRow (getD delta 0 0) 24 t
-    → b ≡ mixedRow (getD delta 1 0) 25 a
-    → c ≡ mixedRow (getD delta 2 0) 26 b
-    → d ≡ mixedRow (getD delta 3 0) 27 c
-    → set (set (set (set rows 24 a) 25 b) 26 c) 27 d ≡ filled step24 row24 28 t₀
-last24 t₀ t rows a b c d et er ea eb ec ed =
-    let p0 = next mixedRow 6 t₀ 0 24 25 _ _ refl refl et ea in
-    let p1 = next mixedRow 6 t₀ 1 25 26 _ _ refl refl p0 eb in
-    let p2 = next mixedRow 6 t₀ 2 26 27 _ _ refl refl p1 ec in
-    let p3 = next mixedRow 6 t₀ 3 27 28 _ _ refl refl p2 ed in
-    let r0 = stored step24 row24 24 25 t₀ _ _ refl (omega arith) er p0 in
-    let r1 = stored step24 row24 25 26 t₀ _ _ refl (omega arith) r0 p1 in
-    let r2 = stored step24 row24 26 27 t₀ _ _ refl (omega arith) r1 p2 in
-    let r3 = stored step24 row24 27 28 t₀ _ _ refl (omega arith) r2 p3 in
-    r3
+  -- the row of step i stored at place i of the first i rows
+  pub stored : (i : ℕ) (t : List ℕ) (rows : List (List ℕ)) (r : List ℕ) → i < 32 → rows ≡ filled step row i t
+      → r ≡ row i (stepped step (i + 1) t) → set rows i r ≡ filled step row (i + 1) t
+  stored i t rows r h er e = (λ z. set (er z) i (e z)) ∙ rows-more i t h
 
 -- ---- every round key is a word
 
@@ -233,3 +161,94 @@ unfolding schedule
 schedule-words Bytes16 key h = filled-words step16 row16 (λ i t w. mixedFour-words (deltaOf 4 i) i t) row16-words (words4 key) (words4-words key h) 24
 schedule-words Bytes24 key h = filled-words step24 row24 (λ i t w. mixedRow-words (deltaOf 6 i) i t) (λ i t w. w) (words6 key) (words6-words key h) 28
 schedule-words Bytes32 key h = filled-words step32 row32 step32-words row32-words (words8 key) (words8-words key h) 32
+
+-- ---- the queue of δ
+
+-- δ of step n, for a key of w words, turned by the step's count, and the queue of the w steps from step i on
+abbrev pub turnedDelta : ℕ → ℕ → ℕ
+turnedDelta w n = rol n (deltaOf w n)
+
+abbrev pub deltas : ℕ → ℕ → List ℕ
+deltas w i = tab w (λ k. turnedDelta w (i + k))
+
+delta-words : Words delta
+delta-words =
+    more (lit< tt) (more (lit< tt) (more (lit< tt) (more (lit< tt) (more (lit< tt) (more (lit< tt) (more (lit< tt) (more (lit< tt) none)))))))
+
+pub delta-word : (w i : ℕ) → deltaOf w i < 2 ^ 32
+delta-word w i = below delta-words (i % w)
+
+-- the front of the queue is the δ of step i
+pub deltas-front : (v i : ℕ) (d : List ℕ) → d ≡ deltas (suc v) i → getD d 0 0 ≡ turnedDelta (suc v) i
+deltas-front v i d e =
+    let f : i + 0 ≡ i = omega arith in
+    ap (λ (l : List ℕ). getD l 0 0) e
+    ∙ getD-tab (suc v) (λ k. turnedDelta (suc v) (i + k)) 0 (omega arith)
+    ∙ ap (turnedDelta (suc v)) f
+
+-- δ comes back after as many steps as there are words
+delta-back : (v i : ℕ) → rol (suc v) (turnedDelta (suc v) i) ≡ turnedDelta (suc v) (i + 1 + v)
+delta-back v i =
+    let e : i + suc v ≡ i + 1 + v = omega arith in
+    rol-sum (suc v) i (deltaOf (suc v) i) (delta-word (suc v) i)
+    ∙ ap (λ (n : ℕ). rol (i + suc v) (getD delta n 0)) (sym (add-mod-right i (suc v)))
+    ∙ ap (turnedDelta (suc v)) e
+
+-- the front put behind, turned
+pub deltas-more : (v i x : ℕ) (d : List ℕ) → d ≡ deltas (suc v) i → x ≡ rol (suc v) (getD d 0 0)
+    → tab v (λ k. getD d (suc k) 0) ++ (x ∷ []) ≡ deltas (suc v) (i + 1)
+unfolding tab
+deltas-more v i x d e f =
+    ap₂ (λ (l : List ℕ) (y : ℕ). l ++ (y ∷ []))
+    (tab-ext v (λ k. getD d (suc k) 0) (λ k. turnedDelta (suc v) (i + 1 + k)) (λ k h.
+    let g : i + suc k ≡ i + 1 + k = omega arith in
+    ap (λ (l : List ℕ). getD l (suc k) 0) e
+    ∙ getD-tab (suc v) (λ k. turnedDelta (suc v) (i + k)) (suc k) (omega arith)
+    ∙ ap (turnedDelta (suc v)) g))
+    (f ∙ ap (rol (suc v)) (deltas-front v i d e) ∙ delta-back v i)
+
+-- ---- one turn of the loop
+
+-- a word mixed with a δ that is turned already
+mixed-turned : (d i m t : ℕ) → d < 2 ^ 32 → mixed (rol i d) 0 m t ≡ mixed d i m t
+unfolding mixed
+mixed-turned d i m t h =
+    ap (λ (x : ℕ). rol (getD turns m 0) (add t x)) (ap (λ (n : ℕ). rol n (rol i d)) (zero-add m) ∙ rol-sum m i d h)
+
+pub mixedFour-turned : (d i : ℕ) (t : List ℕ) → d < 2 ^ 32 → mixedFour (rol i d) 0 t ≡ mixedFour d i t
+unfolding mixedFour
+mixedFour-turned d i t h =
+    λ z.
+    mixed-turned d i 0 (getD t 0 0) h z
+    ∷ mixed-turned d i 1 (getD t 1 0) h z
+    ∷ mixed-turned d i 2 (getD t 2 0) h z
+    ∷ mixed-turned d i 3 (getD t 3 0) h z
+    ∷ []
+
+pub mixedRow-turned : (d i : ℕ) (t : List ℕ) → d < 2 ^ 32 → mixedRow (rol i d) 0 t ≡ mixedRow d i t
+unfolding mixedRow
+mixedRow-turned d i t h =
+    λ z.
+    mixed-turned d i 0 (getD t 0 0) h z
+    ∷ mixed-turned d i 1 (getD t 1 0) h z
+    ∷ mixed-turned d i 2 (getD t 2 0) h z
+    ∷ mixed-turned d i 3 (getD t 3 0) h z
+    ∷ mixed-turned d i 4 (getD t 4 0) h z
+    ∷ mixed-turned d i 5 (getD t 5 0) h z
+    ∷ []
+
+-- the words mixed with the front of the queue are the words after step i
+module _ (mix : ℕ → ℕ → List ℕ → List ℕ) (turned : (d i : ℕ) (t : List ℕ) → d < 2 ^ 32 → mix (rol i d) 0 t ≡ mix d i t) (v : ℕ) where
+  step-front : (i : ℕ) (d t₀ t u : List ℕ) → d ≡ deltas (suc v) i → t ≡ stepped (λ n. mix (deltaOf (suc v) n) n) i t₀
+      → u ≡ mix (getD d 0 0) 0 t → u ≡ stepped (λ n. mix (deltaOf (suc v) n) n) (i + 1) t₀
+  step-front i d t₀ t u ed et eu =
+      eu
+      ∙ (λ z. mix (deltas-front v i d ed z) 0 (et z))
+      ∙ turned (deltaOf (suc v) i) i _ (delta-word (suc v) i)
+      ∙ sym (stepped-more (λ n. mix (deltaOf (suc v) n) n) (λ n l. l) i t₀)
+
+pub step16-front : (i : ℕ) (d t₀ t u : List ℕ) → d ≡ deltas 4 i → t ≡ stepped step16 i t₀ → u ≡ mixedFour (getD d 0 0) 0 t → u ≡ stepped step16 (i + 1) t₀
+step16-front = step-front mixedFour mixedFour-turned 3
+
+pub step24-front : (i : ℕ) (d t₀ t u : List ℕ) → d ≡ deltas 6 i → t ≡ stepped step24 i t₀ → u ≡ mixedRow (getD d 0 0) 0 t → u ≡ stepped step24 (i + 1) t₀
+step24-front = step-front mixedRow mixedRow-turned 5

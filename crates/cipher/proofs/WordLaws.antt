@@ -41,7 +41,7 @@ right-or x k h l =
 other-more : (k : ℕ) → 0 < k → k < 32 → (32 - k) % 32 ≡ 32 - k
 other-more k h l = mod-eq-of-lt (omega arith)
 
-left-none : (x : ℕ) → x < 2 ^ 32 → x ≡ turnLeft 0 x
+pub left-none : (x : ℕ) → x < 2 ^ 32 → x ≡ turnLeft 0 x
 unfolding turnLeft
 left-none x h = omega arith
 

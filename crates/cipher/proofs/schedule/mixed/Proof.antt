@@ -1,3 +1,7 @@
+-- `schedule::mixed` meets its contract. Assumes nothing.
+use mathlib.Core.Path.{sym}
+use Prim.Native.Nat.{ℕ}
+use native.Mathlib.Nat.{zero-add}
 use borrow.Author.Needs.{needs}
 use Rattle.cipher.specs.Word.{add}
 use Rattle.cipher.specs.Schedule.{mixed}
@@ -6,7 +10,7 @@ use Rattle.cipher.proofs.schedule.mixed.Tie as tie
 
 returns : tie.Need-returns
 unfolding mixed add
-returns c = rw (c .rotate-left2 .ensures, c .before .wrapping-add-u32 .ensures, c .before .before .rotate-left .ensures)
+returns c = rw (c .rotate-left2 .ensures, c .before .wrapping-add-u32 .ensures, c .before .before .rotate-left .ensures, zero-add)
 
 pub mixed-spec : {M : Type 1} → statement M
-mixed-spec = tie.close (tie.spec (λ c. search needs) (λ c κs. search needs) (λ c κs. search needs) (λ c. search needs) (λ c. search needs) (λ c κs. search needs) returns)
+mixed-spec = tie.close (tie.spec (λ c κs. search needs) (λ c κs. search needs) (λ c. search needs) (λ c. search needs) (λ c κs. search needs) returns)

@@ -1,37 +1,41 @@
--- `schedule::schedule24` meets its contract. The invariant: 6 j steps are made, and their rows stored. Assumes nothing.
-use mathlib.Core.Path.{_≡_, refl, ap, ap₂, _∙_}
+-- `schedule::schedule24` meets its contract. The invariant: i steps are made, their rows stored, and the queue of δ stands at step i.
+-- Assumes nothing.
+use mathlib.Core.Path.{_≡_, refl, ap₂, _∙_}
 use mathlib.Core.List.{List}
-use Prim.Native.Nat.{ℕ, _*_, _-_, _≤_}
+use Prim.Native.Nat.{ℕ, _-_, _≤_}
 use native.Mathlib.Omega.{arith}
 use borrow.Author.Needs.{needs}
+use Rattle.lists.specs.Tabulation.{tab}
+use Rattle.cipher.specs.Word.{turnLeft}
 use Rattle.cipher.specs.Schedule.{step24, row24, stepped, rowsOf, filled}
-use Rattle.cipher.proofs.ScheduleLaws.{turn24, last24}
+use Rattle.cipher.proofs.ScheduleLaws.{deltas, deltas-more, step24-front, stored}
 use Rattle.cipher.proofs.schedule.schedule24.Statement.{statement}
 use Rattle.cipher.proofs.schedule.schedule24.Tie as tie
 
 abbrev Inv-loop : tie.InvT-loop
-Inv-loop key rows₀ t₀ j₀ rows t j = (j ≤ 4) × (t ≡ stepped step24 (6 * j) t₀) × (rows ≡ filled step24 row24 (6 * j) t₀)
+Inv-loop key rows₀ t₀ d₀ i₀ rows t d i = (i ≤ 28) × (d ≡ deltas 6 i) × (t ≡ stepped step24 i t₀) × (rows ≡ filled step24 row24 i t₀)
 
 abbrev μ-loop : tie.MeasureT-loop
-μ-loop key rows₀ t₀ j₀ rows t j = 4 - j
+μ-loop key rows₀ t₀ d₀ i₀ rows t d i = 28 - i
 
 loop-holds : tie.Need-loop-holds Inv-loop μ-loop
-unfolding stepped rowsOf
-loop-holds c = (omega arith, refl, refl)
+unfolding tab turnLeft stepped rowsOf
+loop-holds c = (omega arith, refl, refl, refl)
 
 loop-again : tie.Need-loop-again Inv-loop μ-loop
+unfolding tab
 loop-again c =
-    let h = c .before .before .before .before .before .before .before in
-    let n = turn24 _ _ _ _ _ _ _ _ _ _ (omega arith) (h .loop .inv .1) (h .loop .inv .2) (c .before .before .before .before .before .mixed-row .ensures) (c .before .before .before .before .mixed-row2 .ensures) (c .before .before .before .mixed-row3 .ensures) (c .before .before .mixed-row4 .ensures) (c .before .mixed-row5 .ensures) (c .mixed-row6 .ensures) in
-    (omega arith, n .0, n .1)
+    let h = c .before .before .before .loop in
+    let t₀ = c .before .before .before .before .words6 .result in
+    let u = c .before .mixed-row .result in
+    let p = step24-front (h .i) (h .d) t₀ (h .t) u (h .inv .1) (h .inv .2) (c .before .mixed-row .ensures) in
+    (omega arith, deltas-more 5 (h .i) (c .rotate-left .result) (h .d) (h .inv .1) (c .rotate-left .ensures), p, stored step24 row24 (h .i) t₀ (h .rows) u (omega arith) (h .inv .3) p)
 
 returns : tie.Need-returns Inv-loop μ-loop
 returns c =
-    let h = c .before .before .before .before .before in
-    let t₀ = h .before .words6 .result in
-    let e : 6 * h .loop .j ≡ 24 = omega arith in
-    last24 t₀ (h .loop .t) (h .loop .rows) _ _ _ _ (h .loop .inv .1 ∙ ap (λ (n : ℕ). stepped step24 n t₀) e) (h .loop .inv .2 ∙ ap (λ (n : ℕ). filled step24 row24 n t₀) e) (c .before .before .before .mixed-row7 .ensures) (c .before .before .mixed-row8 .ensures) (c .before .mixed-row9 .ensures) (c .mixed-row10 .ensures)
-    ∙ ap (λ (t : List ℕ). filled step24 row24 28 t) (h .before .words6 .ensures)
+    let h = c .before in
+    let e : h .loop .i ≡ 28 = omega arith in
+    h .loop .inv .3 ∙ ap₂ (λ (n : ℕ) (t : List ℕ). filled step24 row24 n t) e (h .before .words6 .ensures)
 
 pub schedule24-spec : {M : Type 1} → statement M
-schedule24-spec = tie.close (tie.spec Inv-loop μ-loop (λ c κs. search needs) loop-holds (λ c. search needs) (λ c κs. search needs) (λ c. search needs) (λ c. search needs) (λ c κs. search needs) (λ c. search needs) (λ c. search needs) (λ c κs. search needs) (λ c. search needs) (λ c. search needs) (λ c κs. search needs) (λ c. search needs) (λ c. search needs) (λ c κs. search needs) (λ c. search needs) (λ c. search needs) (λ c κs. search needs) (λ c. search needs) (λ c. search needs) (λ c. search needs) (λ c. search needs) (λ c. search needs) (λ c. search needs) (λ c. search needs) (λ c. search needs) (λ c. search needs) (λ c. search needs) (λ c. search needs) (λ c. search needs) (λ c. search needs) (λ c. search needs) (λ c. search needs) (λ c. search needs) (λ c. search needs) (λ c. search needs) (λ c. search needs) (λ c. search needs) (λ c. search needs) (λ c. search needs) (λ c. search needs) (λ c. search needs) (λ c. search needs) loop-again (λ c κs. search needs) (λ c κs. search needs) (λ c κs. search needs) (λ c κs. search needs) (λ c. search needs) (λ c. search needs) (λ c. search needs) (λ c. search needs) returns)
+schedule24-spec = tie.close (tie.spec Inv-loop μ-loop (λ c κs. search needs) loop-holds (λ c. search needs) (λ c κs. search needs) (λ c. search needs) (λ c. search needs) (λ c. search needs) (λ c. search needs) (λ c. search needs) (λ c. search needs) (λ c. search needs) (λ c. search needs) (λ c κs. search needs) (λ c. search needs) (λ c. search needs) loop-again returns)
