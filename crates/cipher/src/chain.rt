@@ -10,17 +10,11 @@ ghost use Rattle.cipher.specs.Refusal.{outcomeOf};
 ghost use Rattle.cipher.specs.Coding.{codingAt};
 ghost use Rattle.cipher.specs.Chain as C;
 ghost use Rattle.cipher.specs.Answers.{setChecked, chainChecked};
+use crate::invert::wide;
 use crate::refusal::Outcome;
 use crate::refusal::Refusal;
 use crate::size::KeySize;
 use crate::size::SizeFound;
-
-// A byte as an index.
-fn wide(x: u8) -> usize
-    ensures { λ r. ⌜ r ≡ x ⌝ }
-{
-    x as usize
-}
 
 // Whether coding k of those in s is a permutation: each image is below 16, and none was seen before.
 fn is_permutation(s: &[u8], k: usize) -> bool

@@ -27,20 +27,20 @@ returns : tie.Need-returns Inv-loop μ-loop
 returns c =
     let h = c .before .before .before .before in
     let a = h .before .before .args in
-    sym (one-large (codingAt (a .s .now) (a .k)) (h .loop .v) _ (sym (c .before .wide .ensures)) 16 (omega arith) (c .if1 .taken))
+    sym (one-large (codingAt (a .s .now) (a .k)) (h .loop .v) _ (sym (c .before .wide .ensures .0)) 16 (omega arith) (c .if1 .taken))
 
 returns-2 : tie.Need-returns-2 Inv-loop μ-loop
 returns-2 c =
     let h = c .before .before .before .before .before in
     let a = h .before .before .args in
-    sym (one-twice (codingAt (a .s .now) (a .k)) (h .loop .v) _ (sym (c .before .before .wide .ensures)) (h .loop .seen) (h .loop .inv .3) (c .before .if1 .left) 16 (omega arith) (c .if2 .taken))
+    sym (one-twice (codingAt (a .s .now) (a .k)) (h .loop .v) _ (sym (c .before .before .wide .ensures .0)) (h .loop .seen) (h .loop .inv .3) (c .before .if1 .left) 16 (omega arith) (c .if2 .taken))
 
 loop-again : tie.Need-loop-again Inv-loop μ-loop
 loop-again c =
     let h = c .before .before .before .before .before in
     let a = h .before .before .args in
     let f = codingAt (a .s .now) (a .k) in
-    let e = sym (c .before .before .wide .ensures) in (
+    let e = sym (c .before .before .wide .ensures .0) in (
       omega arith,
       simp length-set (h .loop .inv .1),
       one-more f (h .loop .v) _ e (h .loop .seen) (h .loop .inv .3) (c .before .if1 .left) (c .if2 .left) (h .loop .inv .2),
