@@ -1,4 +1,9 @@
+-- `round::round` meets its contract. Assumes nothing.
+use mathlib.Core.Path.{ap, _∙_}
+use mathlib.Core.List.{[], _∷_}
 use borrow.Author.Needs.{needs}
+use lib.ListN.{getD}
+use Rattle.cipher.specs.Word.{rol, ror}
 use Rattle.cipher.specs.Lea.{round}
 use Rattle.cipher.proofs.round.round.Statement.{statement}
 use Rattle.cipher.proofs.round.round.Tie as tie
@@ -6,14 +11,14 @@ use Rattle.cipher.proofs.round.round.Tie as tie
 returns : tie.Need-returns
 unfolding round
 returns c =
-    rw (
-      c .rotate-right2 .ensures,
-      c .before .keyed3 .ensures,
-      c .before .before .rotate-right .ensures,
-      c .before .before .before .keyed2 .ensures,
-      c .before .before .before .before .rotate-left .ensures,
-      c .before .before .before .before .before .keyed .ensures,
-    )
+    let a = c .before .before .before .before in
+    let b = c .before .before in
+    let x = a .before .before .args .t2 in
+    let ea = a .rotate-left .ensures ∙ ap (rol 9) (a .before .keyed .ensures) in
+    let eb = b .rotate-right .ensures ∙ ap (ror 5) (b .before .keyed2 .ensures) in
+    let ec = c .rotate-right2 .ensures ∙ ap (ror 3) (c .before .keyed3 .ensures) in
+    λ i.
+    ea i ∷ eb i ∷ ec i ∷ getD x 0 0 ∷ []
 
 pub round-spec : {M : Type 1} → statement M
 round-spec = tie.close (tie.spec (λ c. search needs) (λ c. search needs) (λ c. search needs) (λ c. search needs) (λ c κs. search needs) (λ c κs. search needs) (λ c. search needs) (λ c. search needs) (λ c. search needs) (λ c. search needs) (λ c κs. search needs) (λ c κs. search needs) (λ c. search needs) (λ c. search needs) (λ c. search needs) (λ c. search needs) (λ c κs. search needs) (λ c κs. search needs) (λ c. search needs) returns)

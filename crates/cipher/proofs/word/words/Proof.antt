@@ -1,3 +1,5 @@
+-- `word::words` meets its contract. Assumes nothing.
+use mathlib.Core.List.{[], _∷_}
 use borrow.Author.Needs.{needs}
 use Rattle.cipher.specs.Schedule.{words4}
 use Rattle.cipher.proofs.word.words.Statement.{statement}
@@ -5,7 +7,13 @@ use Rattle.cipher.proofs.word.words.Tie as tie
 
 returns : tie.Need-returns
 unfolding words4
-returns c = cc
+returns c =
+    λ i.
+    c .before .before .before .word-at .ensures i
+    ∷ c .before .before .word-at2 .ensures i
+    ∷ c .before .word-at3 .ensures i
+    ∷ c .word-at4 .ensures i
+    ∷ []
 
 pub words-spec : {M : Type 1} → statement M
 words-spec = tie.close (tie.spec (λ c κs. search needs) (λ c κs. search needs) (λ c κs. search needs) (λ c κs. search needs) returns)
