@@ -45,27 +45,43 @@ pub fn words(s: &[u8]) -> [u32; 4]
     [word_at(s, 0), word_at(s, 4), word_at(s, 8), word_at(s, 12)]
 }
 
+// The bytes of a word.
+fn bytes_of(w: u32) -> [u8; 4]
+    ensures { λ r. ⌜ r ≡ W.bytesOf w ⌝ }
+{
+    [
+        (w % 256) as u8,
+        (w / 256 % 256) as u8,
+        (w / 65536 % 256) as u8,
+        (w / 16777216 % 256) as u8,
+    ]
+}
+
 // The bytes of four words.
 pub fn bytes(x: [u32; 4]) -> [u8; 16]
     ensures { λ r. ⌜ r ≡ L.bytes x ⌝ }
 {
+    let a = bytes_of(x[0]);
+    let b = bytes_of(x[1]);
+    let c = bytes_of(x[2]);
+    let d = bytes_of(x[3]);
     [
-        (x[0] % 256) as u8,
-        (x[0] / 256 % 256) as u8,
-        (x[0] / 65536 % 256) as u8,
-        (x[0] / 16777216 % 256) as u8,
-        (x[1] % 256) as u8,
-        (x[1] / 256 % 256) as u8,
-        (x[1] / 65536 % 256) as u8,
-        (x[1] / 16777216 % 256) as u8,
-        (x[2] % 256) as u8,
-        (x[2] / 256 % 256) as u8,
-        (x[2] / 65536 % 256) as u8,
-        (x[2] / 16777216 % 256) as u8,
-        (x[3] % 256) as u8,
-        (x[3] / 256 % 256) as u8,
-        (x[3] / 65536 % 256) as u8,
-        (x[3] / 16777216 % 256) as u8,
+        a[0],
+        a[1],
+        a[2],
+        a[3],
+        b[0],
+        b[1],
+        b[2],
+        b[3],
+        c[0],
+        c[1],
+        c[2],
+        c[3],
+        d[0],
+        d[1],
+        d[2],
+        d[3],
     ]
 }
 

@@ -1,0 +1,9 @@
+-- `word::bytes_of` meets its contract. Assumes nothing.
+use borrow.Author.Needs.{needs}
+use Rattle.cipher.specs.Word.{bytesOf}
+use Rattle.cipher.proofs.word.bytes_of.Statement.{statement}
+use Rattle.cipher.proofs.word.bytes_of.Tie as tie
+
+pub bytes-of-spec : {M : Type 1} → statement M
+unfolding bytesOf
+bytes-of-spec = tie.close (tie.spec (λ c. search needs) (λ c. search needs) (λ c. search needs) (λ c. search needs) (λ c. search needs))
