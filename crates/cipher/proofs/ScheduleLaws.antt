@@ -2,7 +2,7 @@
 -- the queue of δ that the code takes its steps' constants from.
 -- Assumes nothing.
 use mathlib.Core.Path.{_≡_, refl, sym, ap, ap₂, _∙_}
-use Prim.Native.Nat.{ℕ, zero, suc, _+_, _-_, _*_, _%_, _^_, _≤_, _<_}
+use Prim.Native.Nat.{ℕ, zero, suc, _+_, _-_, _%_, _^_, _<_}
 use native.Mathlib.Nat.{zero-add, add-mod-right}
 use native.Mathlib.Omega.{arith}
 use native.Mathlib.Numerals.{add-one}
@@ -15,7 +15,6 @@ use Rattle.lists.proofs.PartLaws.{fill-more}
 use Rattle.lists.proofs.TabulationLaws.{getD-tab, tab-ext}
 use Rattle.cipher.specs.Word.{add, rol, word, wordAt}
 use Rattle.cipher.specs.Schedule.{delta, deltaOf, turns, mixed, mixedFour, mixedRow, step16, row16, step24, row24, place, mixAt, step32, row32, words4, words6, words8, stepped, rowsOf, blank, filled, schedule}
-use Rattle.cipher.specs.KeySize.{rounds}
 use Rattle.cipher.specs.declared.size.KeySize.{KeySize}
 use Rattle.cipher.specs.declared.size.KeySize.the-variants.{Bytes16, Bytes24, Bytes32}
 use Rattle.cipher.proofs.WordLaws.{left-word, add-word}

@@ -1,13 +1,13 @@
 -- Laws of the operations on words: shifts joined by an or are a rotation, a rotation is undone by the other, a sum by
 -- the difference, an xor by itself, and a word and its four bytes go into each other.
 -- Assumes nothing.
-use mathlib.Core.Path.{_≡_, refl, sym, ap, ap₂, _∙_, subst}
+use mathlib.Core.Path.{_≡_, sym, ap, ap₂, _∙_, subst}
 use Prim.Native.Nat.{ℕ, zero, suc, _+_, _-_, _*_, _/_, _%_, _^_, _≤_, _<_}
 use native.Mathlib.Nat.{add-zero, mul-mod-left, mod-lt, mod-eq-of-lt}
 use native.Mathlib.Omega.{arith}
-use mathlib.Core.List.{List, [], _∷_}
+use mathlib.Core.List.{[], _∷_}
 use lib.Arith.{digits-lt}
-use lib.Pow.{mod-pow-add, shl-shr, shr-lt, shl-lt, pow-pos, pow-add, high, low, split}
+use lib.Pow.{mod-pow-add, shl-shr, shr-lt, pow-pos, pow-add, high, low, split}
 use lib.Bits.{bitOr, bitXor, or-self, or-shifted, or-shifted-r, xor-lt, xor-block}
 use Rattle.lists.proofs.XorLaws.{xor-cancel}
 use Rattle.cipher.specs.Word.{add, sub, xor, turnLeft, turnRight, word, bytesOf}

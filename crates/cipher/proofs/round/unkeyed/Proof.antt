@@ -3,7 +3,7 @@ use Prim.Native.Nat.{ℕ}
 use native.Mathlib.Omega.{arith}
 use borrow.Author.Needs.{needs}
 use lib.Bits.{bitXor, xor-lt}
-use Rattle.cipher.specs.Word.{sub, xor}
+use Rattle.cipher.specs.Word.{xor}
 use Rattle.cipher.specs.Lea.{unkeyed}
 use Rattle.cipher.proofs.WordLaws.{sub-only}
 use Rattle.cipher.proofs.round.unkeyed.Statement.{statement}

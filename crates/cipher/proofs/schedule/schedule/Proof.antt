@@ -1,6 +1,5 @@
+-- `schedule::schedule` meets its contract. Assumes nothing.
 use mathlib.Core.Path.{sym, ap, _∙_}
-use mathlib.Core.List.{List}
-use Prim.Native.Nat.{ℕ}
 use borrow.Author.Needs.{needs}
 use Rattle.cipher.specs.KeySize.{keyLength}
 use Rattle.cipher.specs.Schedule as S

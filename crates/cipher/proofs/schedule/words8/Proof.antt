@@ -1,3 +1,4 @@
+-- `schedule::words8` meets its contract. Assumes nothing.
 use mathlib.Core.List.{[], _∷_}
 use borrow.Author.Needs.{needs}
 use lib.ListN.{getD}
