@@ -214,7 +214,7 @@ unfolding mixed
 mixed-turned d i m t h =
     ap (λ (x : ℕ). rol (getD turns m 0) (add t x)) (ap (λ (n : ℕ). rol n (rol i d)) (zero-add m) ∙ rol-sum m i d h)
 
-pub mixedFour-turned : (d i : ℕ) (t : List ℕ) → d < 2 ^ 32 → mixedFour (rol i d) 0 t ≡ mixedFour d i t
+mixedFour-turned : (d i : ℕ) (t : List ℕ) → d < 2 ^ 32 → mixedFour (rol i d) 0 t ≡ mixedFour d i t
 unfolding mixedFour
 mixedFour-turned d i t h =
     λ z.

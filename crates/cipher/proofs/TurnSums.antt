@@ -64,7 +64,7 @@ rol-more x n h = left-more x (n % 32) h (omega arith) ∙ go (decLt (n % 32) 31)
         let f : 0 ≡ suc n % 32 = omega arith in
         ap (λ (k : ℕ). turnLeft k x) e ∙ left-all x h ∙ ap (λ (k : ℕ). turnLeft k x) f
 
-pub rol-word : (n x : ℕ) → x < 2 ^ 32 → rol n x < 2 ^ 32
+rol-word : (n x : ℕ) → x < 2 ^ 32 → rol n x < 2 ^ 32
 rol-word n x h = left-word (n % 32) x (omega arith) h
 
 -- n and then m
