@@ -7,7 +7,9 @@ use native.Mathlib.Omega.{arith}
 use Rattle.cipher.specs.Refusal.{numberOf}
 use Rattle.pad.proofs.AnswerLaws.{number-more}
 use Rattle.cipher.specs.declared.refusal.Refusal.{Refusal}
+use Rattle.driver.specs.declared.session.Session.{Session}
 use Rattle.exports.specs.Into.{into, kept}
+use Rattle.exports.specs.Session.{Parts, flagOf, intoParts, tagIntoParts}
 
 -- number n of an answer whose outcome is o
 module _ (answer : ℕ × List ℕ) (o n : ℕ) (v old : List ℕ) (told : (o, v) ≡ answer) (e : n ≡ o) where
@@ -39,3 +41,35 @@ module _ {A : Type 0} (answer : (ℕ × A) × List ℕ) (t : ℕ × A) (x : List
       go : (k : ℕ) → 0 < k → ((k, old), x) ≡ kept ((k, nothing), x) old
       go zero l = absurd (omega arith)
       go (suc k) l = refl
+
+-- number n of an answer whose outcome is o and whose session is s; f is its flag
+module _ (o n : ℕ) (s : Session) (old : Parts) (e : n ≡ o) where
+  pub parts-taken : n ≡ 0 → (f : ℕ) → f ≡ flagOf (s .finished) → (n, (s .block, s .taken, f)) ≡ intoParts (o, s) old
+  parts-taken h f ef =
+      (λ i. (h i, (s .block, s .taken, ef i))) ∙ ap (λ (k : ℕ). intoParts (k, s) old) zero-is
+    where
+      zero-is : 0 ≡ o
+      zero-is = omega arith
+
+  pub parts-refused : (n ≡ 0 → ⊥) → (n, old) ≡ intoParts (o, s) old
+  parts-refused h = go n h ∙ ap (λ (k : ℕ). intoParts (k, s) old) e
+    where
+      go : (k : ℕ) → (k ≡ 0 → ⊥) → (k, old) ≡ intoParts (k, s) old
+      go zero f = absurd (f refl)
+      go (suc k) f = refl
+
+-- the same with a tag t
+module _ (o n : ℕ) (t : List ℕ) (s : Session) (old : List ℕ × Parts) (e : n ≡ o) where
+  pub tag-taken : n ≡ 0 → (f : ℕ) → f ≡ flagOf (s .finished) → (n, (t, (s .block, s .taken, f))) ≡ tagIntoParts ((o, t), s) old
+  tag-taken h f ef =
+      (λ i. (h i, (t, (s .block, s .taken, ef i)))) ∙ ap (λ (k : ℕ). tagIntoParts ((k, t), s) old) zero-is
+    where
+      zero-is : 0 ≡ o
+      zero-is = omega arith
+
+  pub tag-refused : (n ≡ 0 → ⊥) → (n, old) ≡ tagIntoParts ((o, t), s) old
+  tag-refused h = go n h ∙ ap (λ (k : ℕ). tagIntoParts ((k, t), s) old) e
+    where
+      go : (k : ℕ) → (k ≡ 0 → ⊥) → (k, old) ≡ tagIntoParts ((k, t), s) old
+      go zero f = absurd (f refl)
+      go (suc k) f = refl

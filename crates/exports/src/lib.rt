@@ -6,10 +6,15 @@ ghost use Rattle.cipher.specs.Answers.{blockTold, encipherAnswer, decipherAnswe
 ghost use Rattle.exports.specs.Into.{into, kept};
 ghost use Rattle.book.specs.Answers.{buildAnswer, roundAnswer};
 ghost use Rattle.pad.specs.Answers.{sealingAnswer, tagAnswer};
+ghost use Rattle.driver.specs.Driver as D;
+ghost use Rattle.exports.specs.Session.{sessionOf, flagOf, intoParts, tagIntoParts};
 use cipher::lea::BlockAnswer;
 use cipher::refusal::Refusal;
+use cipher::refusal::Written;
 use cipher::size::KeySize;
 use cipher::size::SizeFound;
+use driver::session::Session;
+use driver::session::SessionAnswer;
 use pad::code::SealingCode;
 use pad::code::TagCode;
 
@@ -151,6 +156,145 @@ pub extern "C" fn bowlinette_code_for_tag(
         }
         TagCode::Refused(why) => why.number(),
     }
+}
+
+// A block by the tables of one round, into out.
+#[no_mangle]
+pub extern "C" fn bowlinette_run_round(tables: &[u8], block: &[u8], out: &mut [u8; 16]) -> u32
+    ensures { λ r. ⌜ (r, now (out .exit)) ≡ into (D.roundAnswer (now (tables .entry)) (now (block .entry))) (now (out .entry)) ⌝ }
+{
+    deliver(driver::run::run_round(tables, block), out)
+}
+
+// A block by the first rounds of a book, all of them where the count is more, into out.
+#[no_mangle]
+pub extern "C" fn bowlinette_run_rounds(
+    book: &[u8],
+    rounds: usize,
+    block: &[u8],
+    out: &mut [u8; 16],
+) -> u32
+    ensures { λ r. ⌜ (r, now (out .exit)) ≡ into (D.roundsAnswer (now (book .entry)) rounds (now (block .entry))) (now (out .entry)) ⌝ }
+{
+    deliver(driver::run::run_rounds(book, rounds, block), out)
+}
+
+// A coded message sealed by a book from a coded IV, into the front of out, and the length of that
+// into length.
+#[no_mangle]
+pub extern "C" fn bowlinette_seal(
+    book: &[u8],
+    iv: &[u8],
+    coded: &[u8],
+    out: &mut [u8],
+    length: &mut u64,
+) -> u32
+    ensures { λ r. ⌜ ((r, now (length .exit)), now (out .exit)) ≡ kept (D.sealAnswer (now (book .entry)) (now (iv .entry)) (now (coded .entry)) (now (out .entry))) (now (length .entry)) ⌝ }
+{
+    let written = driver::seal::seal(book, iv, coded, out);
+    match written {
+        Written::Bytes(n) => {
+            *length = n as u64;
+            0
+        }
+        Written::Refused(why) => why.number(),
+    }
+}
+
+// Whether a session is finished, as a flag.
+fn flag(finished: bool) -> u8
+    ensures { λ r. ⌜ r ≡ flagOf finished ⌝ }
+{
+    if finished { 1 } else { 0 }
+}
+
+// An answer's session into its three parts, and its number.
+fn deliver_session(
+    a: SessionAnswer,
+    block: &mut [u8; 16],
+    taken: &mut u16,
+    finished: &mut u8,
+) -> u32
+    ensures { λ r. ⌜ (r, (now (block .exit), now (taken .exit), now (finished .exit))) ≡ intoParts (D.sessionTold a) (now (block .entry), now (taken .entry), now (finished .entry)) ⌝ }
+{
+    let outcome = a.outcome;
+    let n = outcome.number();
+    if n == 0 {
+        let s = a.session;
+        let b = s.block;
+        *block = b;
+        *taken = s.taken;
+        *finished = flag(s.finished);
+    }
+    n
+}
+
+// A fresh session on a book, into its three parts.
+#[no_mangle]
+pub extern "C" fn bowlinette_begin(
+    block: &mut [u8; 16],
+    taken: &mut u16,
+    finished: &mut u8,
+    book: &[u8],
+) -> u32
+    ensures { λ r. ⌜ (r, (now (block .exit), now (taken .exit), now (finished .exit))) ≡ intoParts (D.beginAnswer (now (book .entry))) (now (block .entry), now (taken .entry), now (finished .entry)) ⌝ }
+{
+    deliver_session(driver::session::begin(book), block, taken, finished)
+}
+
+// A block call on the session of three parts.
+#[no_mangle]
+pub extern "C" fn bowlinette_block_call(
+    block: &mut [u8; 16],
+    taken: &mut u16,
+    finished: &mut u8,
+    book: &[u8],
+    coded: &[u8],
+) -> u32
+    ensures { λ r. ⌜ (r, (now (block .exit), now (taken .exit), now (finished .exit))) ≡ intoParts (D.blockAnswer (now (book .entry)) (now (coded .entry)) (sessionOf (now (block .entry), now (taken .entry), now (finished .entry)))) (now (block .entry), now (taken .entry), now (finished .entry)) ⌝ }
+{
+    let held = *block;
+    let s = Session {
+        block: held,
+        taken: *taken,
+        finished: *finished != 0,
+    };
+    let a = driver::session::block_call(s, book, coded);
+    deliver_session(a, block, taken, finished)
+}
+
+// A last call on the session of three parts, its tag into tag.
+#[no_mangle]
+pub extern "C" fn bowlinette_last_call(
+    block: &mut [u8; 16],
+    taken: &mut u16,
+    finished: &mut u8,
+    book: &[u8],
+    coded: &[u8],
+    kind: u8,
+    tag: &mut [u8; 16],
+) -> u32
+    ensures { λ r. ⌜ (r, (now (tag .exit), (now (block .exit), now (taken .exit), now (finished .exit)))) ≡ tagIntoParts (D.lastAnswer (now (book .entry)) (now (coded .entry)) kind (sessionOf (now (block .entry), now (taken .entry), now (finished .entry)))) (now (tag .entry), (now (block .entry), now (taken .entry), now (finished .entry))) ⌝ }
+{
+    let held = *block;
+    let s = Session {
+        block: held,
+        taken: *taken,
+        finished: *finished != 0,
+    };
+    let a = driver::session::last_call(s, book, coded, kind);
+    let outcome = a.outcome;
+    let n = outcome.number();
+    if n == 0 {
+        let t = a.tag;
+        *tag = t;
+        let after = a.session;
+        let b = after.block;
+        *block = b;
+        *taken = after.taken;
+        *finished = flag(after.finished);
+    }
+    n
 }
 
 // For the benchmark: the chaining value of CMAC after the whole blocks of a text, into out.
