@@ -37,9 +37,9 @@ pub fn groups(last: &[u8], message: &[u8], first: &[u8], keys: SubkeyPair, out: 
     requires { ⌜ FirstPermutations 32 (now last) × (512 ≤ length (now last)) × FirstPermutations 32 (now message) × (512 ≤ length (now message)) × (512 ≤ length (now first)) × (length (now out) ≡ 24576) ⌝ }
     ensures { λ _. ⌜ now (out .exit) ≡ chunks 3 (λ g. groupPart (setOf (now (last .entry))) (setOf (now (message .entry))) (setOf (now (first .entry))) (threeKeys (keys .k1) (keys .k2) g)) ⌝ }
 {
-    let mut s = [0u8; 512];
+    let mut s = [0u8; KeySize::SET];
     invert(last, KeySize::SET_CODINGS, &mut s);
-    let mut u = [0u8; 512];
+    let mut u = [0u8; KeySize::SET];
     invert(message, KeySize::SET_CODINGS, &mut u);
     let k1 = keys.k1;
     let k2 = keys.k2;

@@ -22,9 +22,9 @@ fn round_tables(before: &[u8], after: &[u8], round: &[u8], k: [u32; 6], out: &mu
     requires { ⌜ RoundReady (now before) (now after) (now round) × (length (now out) ≡ 18432) ⌝ }
     ensures { λ _. ⌜ now (out .exit) ≡ roundPart (codingsOf (now (before .entry)) (now (after .entry)) (now (round .entry))) k ⌝ }
 {
-    let mut s = [0u8; 512];
+    let mut s = [0u8; KeySize::SET];
     invert(before, KeySize::SET_CODINGS, &mut s);
-    let mut m = [0u8; 384];
+    let mut m = [0u8; KeySize::CODING * KeySize::MIDDLES];
     invert(round, KeySize::MIDDLES, &mut m);
     add_tables(&s, round, k, &mut out[0..ADDS]);
     turn_tables(&m, after, &mut out[ADDS..KeySize::ROUND_TABLES]);
