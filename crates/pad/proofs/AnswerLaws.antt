@@ -24,7 +24,7 @@ use Rattle.cipher.specs.declared.refusal.Refusal.the-variants.{KeyLength, Chain
 use Rattle.pad.specs.Images.{codedPart}
 use Rattle.pad.specs.Padding.{codedText, paddedForSealing, paddedForTag, kindOf}
 use Rattle.pad.specs.Answers.{longest, codingTests, codedInto, sealingAnswer, tagAnswer}
-use Rattle.pad.proofs.TextLaws.{part-blocks}
+use Rattle.pad.proofs.ImageLaws.{part-blocks}
 
 -- ---- the tests: for a set u, a message of n bytes, and total bytes to be written where there is room for some
 

@@ -1,4 +1,5 @@
 pub mod PadLaws
+pub mod ImageLaws
 pub mod TextLaws
 pub mod AnswerLaws
 pub mod CodeLaws

@@ -16,7 +16,7 @@ use Rattle.pad.specs.Padding.{sealingAdded, paddedForSealing, lastByte, 
 
 -- ---- bytes
 
-bytes-append : (a b : List ℕ) → Bytes a → Bytes b → Bytes (a ++ b)
+pub bytes-append : (a b : List ℕ) → Bytes a → Bytes b → Bytes (a ++ b)
 bytes-append [] b ha hb k = hb k
 bytes-append (x ∷ a) b ha hb zero = ha zero
 bytes-append (x ∷ a) b ha hb (suc k) = bytes-append a b (λ i. ha (suc i)) hb k

@@ -1,5 +1,5 @@
 -- How the code goes about the coding of a text: what each byte becomes in each place of a block is worked out once, and then
--- looked up for each byte. Only inner functions promise this; `TextLaws` says that it is the coding of blocks.
+-- looked up for each byte. Only inner functions promise this; `ImageLaws` says that it is the coding of blocks.
 -- Assumes nothing.
 use mathlib.Core.List.{List}
 use Prim.Native.Nat.{ℕ, _+_, _*_, _/_, _%_}

@@ -3,7 +3,7 @@
 ghost use mathlib.Core.Path.{_≡_};
 ghost use mathlib.Core.List.{_++_};
 ghost use Prim.Native.Nat.{_+_, _*_, _≤_, _<_};
-ghost use lib.ListN.{length, take, drop};
+ghost use lib.ListN.{length, take, drop, getD};
 ghost use Rattle.lists.specs.Tabulation.{tab};
 ghost use Rattle.cipher.specs.Coding.{LowSet, byteCoded};
 ghost use Rattle.pad.specs.Images.{imagesOf, imageAt, codedPart};
@@ -35,6 +35,29 @@ fn images(set: &[u8], out: &mut [u8])
     }
 }
 
+// One block coded.
+fn code_block(images: &[u8], block: &[u8], out: &mut [u8])
+    requires { ⌜ (length (now images) ≡ 4096) × (length (now block) ≡ 16) × (length (now out) ≡ 16) ⌝ }
+    ensures { λ _. ⌜ now (out .exit) ≡ tab 16 (λ k. imageAt (now (images .entry)) k (getD (now (block .entry)) k 0)) ⌝ }
+{
+    for k in 0..KeySize::CODING {
+        out[k] = images[256 * k + wide(block[k])];
+    }
+}
+
+// The first n blocks of a text coded into the front of out.
+fn code_blocks(images: &[u8], text: &[u8], n: usize, out: &mut [u8])
+    requires { ⌜ (length (now images) ≡ 4096) × (n * 16 ≤ length (now text)) × (length (now text) ≤ length (now out)) ⌝ }
+    ensures { λ _. ⌜ now (out .exit) ≡ codedPart (imageAt (now (images .entry))) 0 (take (n * 16) (now (text .entry))) ++ drop (n * 16) (now (out .entry)) ⌝ }
+{
+    let mut a: usize = 0;
+    for k in 0..n {
+        let e = a + KeySize::CODING;
+        code_block(images, &text[a..e], &mut out[a..e]);
+        a = e;
+    }
+}
+
 // A part of a text, which begins at byte `from` of it, coded into the same places of out.
 fn code_part(images: &[u8], from: usize, part: &[u8], out: &mut [u8])
     requires { ⌜ (length (now images) ≡ 4096) × (from + length (now part) ≤ length (now out)) ⌝ }
@@ -53,6 +76,9 @@ pub fn code_text(set: &[u8], message: &[u8], added: &[u8], out: &mut [u8])
 {
     let mut table = [0u8; 4096];
     images(set, &mut table);
-    code_part(&table, 0, message, out);
+    let n = message.len() / KeySize::CODING;
+    let whole = n * KeySize::CODING;
+    code_blocks(&table, message, n, out);
+    code_part(&table, whole, &message[whole..], out);
     code_part(&table, message.len(), added, out);
 }

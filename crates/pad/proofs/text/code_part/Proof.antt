@@ -8,7 +8,7 @@ use borrow.Author.Needs.{needs}
 use lib.ListN.{length, getD, take, drop, length-set}
 use Rattle.lists.specs.Tabulation.{tab}
 use Rattle.pad.specs.Images.{imageAt, codedPart}
-use Rattle.pad.proofs.TextLaws.{part-turn, part-full, part-none}
+use Rattle.pad.proofs.ImageLaws.{part-turn, part-full, part-none}
 use Rattle.pad.proofs.text.code_part.Statement.{statement}
 use Rattle.pad.proofs.text.code_part.Tie as tie
 

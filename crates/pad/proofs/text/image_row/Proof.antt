@@ -8,7 +8,7 @@ use lib.ListN.{length, drop, length-set}
 use Rattle.lists.specs.Tabulation.{tab}
 use Rattle.lists.proofs.PartLaws.{tab-turn, tab-full}
 use Rattle.cipher.specs.Coding.{byteCoded}
-use Rattle.pad.proofs.TextLaws.{image-is}
+use Rattle.pad.proofs.ImageLaws.{image-is}
 use Rattle.pad.proofs.text.image_row.Statement.{statement}
 use Rattle.pad.proofs.text.image_row.Tie as tie
 

@@ -10,7 +10,7 @@ use Rattle.lists.specs.Tabulation.{tab, chunks}
 use Rattle.lists.proofs.TabulationLaws.{length-tab}
 use Rattle.lists.proofs.PartLaws.{chunks-turn, chunks-full, length-part}
 use Rattle.cipher.specs.Coding.{byteCoded}
-use Rattle.pad.proofs.TextLaws.{images-rows}
+use Rattle.pad.proofs.ImageLaws.{images-rows}
 use Rattle.pad.proofs.text.images.Statement.{statement}
 use Rattle.pad.proofs.text.images.Tie as tie
 
