@@ -26,7 +26,7 @@ abbrev pub tagTold : TagCode → ℕ × (ℕ × ℕ)
 tagTold (T.Coded n k) = (0, (n, k))
 tagTold (T.Refused q) = (numberOf q, (0, 0))
 
--- the longest message
+-- the longest message that is not refused ("Refusals from the input", number 8)
 abbrev pub longest : ℕ
 longest = 1048575
 
@@ -40,6 +40,7 @@ codedInto nothing told u m text out =
     first (codingTests u (length m) (length text) (length out)) (λ q. ((q, nothing), out))
     ((0, told), codedText (setOf u) text ++ drop (length text) out)
 
+-- coding for sealing tells the length, coding for a tag the length and the kind
 abbrev pub sealingAnswer : List ℕ → List ℕ → List ℕ → (ℕ × ℕ) × List ℕ
 sealingAnswer u m out = codedInto 0 (length (paddedForSealing m)) u m (paddedForSealing m) out
 

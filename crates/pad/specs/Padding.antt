@@ -9,7 +9,7 @@ use lib.ListN.{length, getD, take, replicate}
 use Rattle.lists.specs.Blocks.{blocks}
 use Rattle.cipher.specs.Coding.{Set, coded, decoded}
 
--- ---- for sealing: PKCS#7
+-- ---- for sealing (document 01, "Papers": PKCS#7)
 
 -- how many bytes are added to n: what leads to the end of the next block, 1 to 16
 abbrev pub sealingAdded : ℕ → ℕ
@@ -23,7 +23,8 @@ paddedForSealing m = m ++ replicate (sealingAdded (length m)) (sealingAdded (len
 abbrev pub lastByte : List ℕ → ℕ
 lastByte text = getD text (length text - 1) 0
 
--- the text ends in PKCS#7 padding: its last byte v is 1 to 16, and so many bytes at its end are all v
+-- the text ends in such padding, by what refusal 11 asks of an opened text: its last byte v is 1 to 16, and so many bytes at
+-- its end are all v
 pub record SealingPadded (text : List ℕ) : Type 0 where
   pub some : 1 ≤ lastByte text
   pub most : lastByte text ≤ 16
@@ -34,7 +35,7 @@ pub record SealingPadded (text : List ℕ) : Type 0 where
 unfoldable pub stripped : List ℕ → List ℕ
 stripped text = take (length text - lastByte text) text
 
--- ---- for a tag
+-- ---- for a tag ("Pad, driver, archive")
 
 -- a message of n bytes fills whole blocks and is not empty
 unfoldable pub fillsBlocks : ℕ → Bool
@@ -52,7 +53,7 @@ tagAdded n = cond (fillsBlocks n) 0 (16 - n % 16)
 unfoldable pub paddedForTag : List ℕ → List ℕ
 paddedForTag m = m ++ cond (fillsBlocks (length m)) [] (0x80 ∷ replicate (15 - length m % 16) 0)
 
--- ---- coded
+-- ---- coded ("Chain of codings": each half byte of a block by its own coding)
 
 -- a text of whole blocks, each of them coded, and decoded, by the set S
 unfoldable pub codedText : Set → List ℕ → List ℕ

@@ -25,9 +25,9 @@ pub enum TagCode {
     Refused(Refusal),
 }
 
-// The longest message, and a block, in bytes.
+// The longest message, in bytes.
 const LONGEST: usize = 1048575;
-
+// A block, in bytes.
 const BLOCK: usize = 16;
 
 // What both codings refuse: the set (2, 3), a message of n bytes (8), the room for it and the
