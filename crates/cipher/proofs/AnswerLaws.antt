@@ -7,13 +7,16 @@ use mathlib.Core.List.{List, [], _∷_, _++_}
 use Prim.Native.Nat.{ℕ, _%_, _≤_, _<_}
 use native.Mathlib.Omega.{arith}
 use borrow.Author.Tests.{eq-eqb, ne-eqb, eqb-true, eqb-false, le-leb, lt-leb, le-ltb, lt-ltb, ltb-false}
-use lib.Dec.{eqb, leb, ltb}
+use lib.Dec.{eqb, leb, ltb, lit<}
 use lib.ListN.{length}
 use Rattle.lists.specs.Blocks.{zeros}
 use Rattle.lists.specs.Refusals.{first}
 use Rattle.lists.proofs.RefusalLaws.{first-hit, first-pass}
 use Rattle.cipher.specs.KeySize.{keyLength, sizeOfKey}
 use Rattle.cipher.specs.Answers.{keyLengthTests, keyTests, blockTests, badText, textTests, roomTests, keyLengthSize, keySize, onBlock}
+use Rattle.cipher.specs.Refusal.{numberOf}
+use Rattle.cipher.specs.declared.refusal.Refusal.{Refusal}
+use Rattle.cipher.specs.declared.refusal.Refusal.the-variants.{KeyLength, ChainLength, NoPermutation, WordRule, MaskByte, BookLength, BlockLength, MessageLength, ShortBuffer, KindByte, BadPadding, SessionFinished, SessionFull}
 use Rattle.cipher.specs.declared.size.KeySize.{KeySize}
 use Rattle.cipher.specs.declared.size.KeySize.the-variants.{Bytes16, Bytes24, Bytes32}
 use Rattle.cipher.specs.declared.size.SizeFound.the-variants.{Found, Unknown}
@@ -130,3 +133,19 @@ module _ {A : Type 0} (n : ℕ) (out : List ℕ) (refuse : ℕ → A) (go : A) w
   pub room-taken : n ≤ length out → first (roomTests n out) refuse go ≡ go
   unfolding first
   room-taken h = first-pass (ltb (length out) n) 9 [] refuse go (le-ltb (length out) n h)
+
+-- the number of a refusal is never 0
+pub number-more : (q : Refusal) → 0 < numberOf q
+number-more KeyLength = lit< tt
+number-more ChainLength = lit< tt
+number-more NoPermutation = lit< tt
+number-more WordRule = lit< tt
+number-more MaskByte = lit< tt
+number-more BookLength = lit< tt
+number-more BlockLength = lit< tt
+number-more MessageLength = lit< tt
+number-more ShortBuffer = lit< tt
+number-more KindByte = lit< tt
+number-more BadPadding = lit< tt
+number-more SessionFinished = lit< tt
+number-more SessionFull = lit< tt

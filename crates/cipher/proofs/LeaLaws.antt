@@ -101,7 +101,7 @@ forward-words rows zero h = h
 forward-words rows (suc n) h = round-words (getD rows n []) (forward-words rows n h)
 
 module _ (rows : List (List ℕ)) (hr : RowsOfWords rows) where
-  backward-words : (n : ℕ) {x : List ℕ} → Four x → Four (backward rows n x)
+  pub backward-words : (n : ℕ) {x : List ℕ} → Four x → Four (backward rows n x)
   unfolding backward
   backward-words zero h = h
   backward-words (suc n) h = backward-words n (unround-words (getD rows n []) (hr n) h)

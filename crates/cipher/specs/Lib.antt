@@ -4,6 +4,7 @@ pub mod Word
 pub mod Schedule
 pub mod Lea
 pub mod Cmac
+pub mod Cbc
 pub mod Coding
 pub mod Tables
 pub mod Chain

@@ -1,14 +1,14 @@
 -- A chain of blocks sealed one after another into a buffer: one turn of the loop, and the whole.
 -- Assumes nothing.
 use mathlib.Core.Path.{_≡_, refl, sym, ap, ap₂, _∙_}
-use mathlib.Core.List.{List, [], _∷_, _++_, flatten, append-assoc}
+use mathlib.Core.List.{List, [], _∷_, _++_, flatten}
 use Prim.Native.Nat.{ℕ, zero, suc, _+_, _*_, _/_, _%_}
 use native.Mathlib.Numerals.{add-one}
 use native.Mathlib.Omega.{arith}
 use lib.ListN.{length, take, drop, length-append}
-use lib.Seq.{take-at, drop-at, drop-drop}
 use Rattle.lists.specs.Blocks.{Block, cut, blocks}
 use Rattle.lists.proofs.BlockLaws.{cut-more, flatten-more}
+use Rattle.lists.proofs.PartLaws.{put-more}
 use Rattle.driver.specs.Driver.{chainFrom, pass, sealed}
 use Rattle.driver.proofs.PassLaws.{block-pass}
 
@@ -69,7 +69,4 @@ module _ (bk iv cs out₀ : List ℕ) where
     pub seal-turn : take (16 * k) out ++ y ++ drop (16 * k + 16) out ≡ done (k + 1) ++ drop (16 * (k + 1)) out₀
     seal-turn =
         let q : 16 * k + 16 ≡ 16 * (k + 1) = omega arith in
-        ap₂ (λ (a b : List ℕ). a ++ y ++ b)
-        (ap (take (16 * k)) eo ∙ take-at (done k) (drop (16 * k) out₀) (16 * k) (done-length k))
-        (sym (drop-drop 16 (16 * k) out) ∙ ap (drop 16) (ap (drop (16 * k)) eo ∙ drop-at (done k) (drop (16 * k) out₀) (16 * k) (done-length k)) ∙ drop-drop 16 (16 * k) out₀)
-        ∙ ap₂ (λ (a : List ℕ) (n : ℕ). a ++ drop n out₀) (sym done-more) q
+        put-more (done k) out₀ out y (16 * k) 16 (done-length k) eo ∙ ap₂ (λ (a : List ℕ) (n : ℕ). a ++ drop n out₀) (sym done-more) q

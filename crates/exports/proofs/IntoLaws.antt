@@ -5,7 +5,7 @@ use mathlib.Core.List.{List}
 use Prim.Native.Nat.{ℕ, zero, suc, _<_}
 use native.Mathlib.Omega.{arith}
 use Rattle.cipher.specs.Refusal.{numberOf}
-use Rattle.pad.proofs.AnswerLaws.{number-more}
+use Rattle.cipher.proofs.AnswerLaws.{number-more}
 use Rattle.cipher.specs.declared.refusal.Refusal.{Refusal}
 use Rattle.driver.specs.declared.session.Session.{Session}
 use Rattle.exports.specs.Into.{into, kept}

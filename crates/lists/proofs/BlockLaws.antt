@@ -72,6 +72,12 @@ pub blocks-flatten : (bs : List (List ℕ)) → Blocks bs → blocks (flatten bs
 unfolding blocks
 blocks-flatten bs h = let e : length (flatten bs) / 16 ≡ length bs = omega (arith, length-flatten bs h) in rw e (cut-flatten bs h)
 
+-- bytes and bytes behind them
+pub bytes-append : (a b : List ℕ) → Bytes a → Bytes b → Bytes (a ++ b)
+bytes-append [] b ha hb k = hb k
+bytes-append (x ∷ a) b ha hb zero = ha zero
+bytes-append (x ∷ a) b ha hb (suc k) = bytes-append a b (λ i. ha (suc i)) hb k
+
 pub bytes-drop : (n : ℕ) (l : List ℕ) → Bytes l → Bytes (drop n l)
 bytes-drop n l h k = rw (getD-drop n l k 0) (h (n + k))
 

@@ -1,6 +1,6 @@
 -- Laws of `every`: it is true exactly if each test is, and false where one is.
 -- Assumes nothing.
-use mathlib.Core.Path.{_≡_, refl, ap, _∙_}
+use mathlib.Core.Path.{_≡_, refl, ap, ap₂, _∙_}
 use mathlib.Core.Bool.{Bool, true, false, _&&_}
 use mathlib.Core.Logic.{_⊎_, inl, inr}
 use Prim.Native.Nat.{ℕ, zero, suc, _+_, _<_}
@@ -43,3 +43,8 @@ every-not n p i h e = go (every n p) refl
     go : (b : Bool) → every n p ≡ b → every n p ≡ false
     go false d = d
     go true d = let t = every-all n p d i h in let z : _≡_ {A = ℕ} 0 1 = cc in absurd (omega arith)
+
+pub every-ext : (n : ℕ) (p q : ℕ → Bool) → ((i : ℕ) → i < n → p i ≡ q i) → every n p ≡ every n q
+unfolding every
+every-ext zero p q h = refl
+every-ext (suc n) p q h = ap₂ (λ (a b : Bool). a && b) (every-ext n p q (λ i l. h i (omega arith))) (h n (omega arith))

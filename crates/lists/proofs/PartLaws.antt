@@ -88,3 +88,9 @@ paste-turn d₀ d b at n k h hk l e =
 pub paste-full : (d₀ d b : List ℕ) (at n k : ℕ) → d ≡ paste d₀ at b k → k ≡ n → length b ≡ n → d ≡ take at d₀ ++ b ++ drop (at + n) d₀
 paste-full d₀ d b at n k e f l =
     e ∙ ap (λ (j : ℕ). paste d₀ at b j) f ∙ ap (λ (q : List ℕ). take at d₀ ++ q ++ drop (at + n) d₀) (take-all n b (omega arith))
+
+-- b put over what stands from n on, where p is written so far
+pub put-more : (p d out b : List ℕ) (n s : ℕ) → length p ≡ n → out ≡ p ++ drop n d → take n out ++ b ++ drop (n + s) out ≡ (p ++ b) ++ drop (n + s) d
+put-more p d out b n s l e =
+    ap {B = List ℕ} (λ x. take n x ++ b ++ drop (n + s) x) e
+    ∙ rw (take-at p (drop n d) n l, sym (drop-drop s n (p ++ drop n d)), drop-at p (drop n d) n l, drop-drop s n d)

@@ -6,7 +6,7 @@ use mathlib.Core.List.{List, [], _∷_, _++_}
 use Prim.Native.Nat.{ℕ, _+_, _*_, _≤_, _<_}
 use native.Mathlib.Omega.{arith}
 use borrow.Author.Tests.{lt-ltb, le-ltb, ltb-false}
-use lib.Dec.{ltb, lit<}
+use lib.Dec.{ltb}
 use lib.ListN.{length, drop}
 use Rattle.lists.specs.Refusals.{first}
 use Rattle.lists.proofs.RefusalLaws.{Clear, first-hit, first-pass}
@@ -20,7 +20,7 @@ use Rattle.cipher.proofs.CheckLaws.{Numbered, told-clear, told-refused}
 use Rattle.cipher.specs.declared.refusal.Outcome.{Outcome}
 use Rattle.cipher.specs.declared.refusal.Outcome.the-variants.{Done, Refused}
 use Rattle.cipher.specs.declared.refusal.Refusal.{Refusal}
-use Rattle.cipher.specs.declared.refusal.Refusal.the-variants.{KeyLength, ChainLength, NoPermutation, WordRule, MaskByte, BookLength, BlockLength, MessageLength, ShortBuffer, KindByte, BadPadding, SessionFinished, SessionFull}
+use Rattle.cipher.proofs.AnswerLaws.{number-more}
 use Rattle.pad.specs.Images.{codedPart}
 use Rattle.pad.specs.Padding.{codedText, paddedForSealing, paddedForTag, kindOf}
 use Rattle.pad.specs.Answers.{longest, codingTests, codedInto, sealingAnswer, tagAnswer}
@@ -119,22 +119,6 @@ module _ (u m out : List ℕ) where
       tag-coded h = coded-done (0, 0) (length (paddedForTag m), kindOf (length m)) u m (paddedForTag m) out v l h
 
 -- ---- for the code: what the number tells that both codings get from `admit`
-
--- the number of a refusal is never 0
-pub number-more : (q : Refusal) → 0 < numberOf q
-number-more KeyLength = lit< tt
-number-more ChainLength = lit< tt
-number-more NoPermutation = lit< tt
-number-more WordRule = lit< tt
-number-more MaskByte = lit< tt
-number-more BookLength = lit< tt
-number-more BlockLength = lit< tt
-number-more MessageLength = lit< tt
-number-more ShortBuffer = lit< tt
-number-more KindByte = lit< tt
-number-more BadPadding = lit< tt
-number-more SessionFinished = lit< tt
-number-more SessionFull = lit< tt
 
 module _ (u : List ℕ) (n total room : ℕ) where
   -- what the check of the set refused

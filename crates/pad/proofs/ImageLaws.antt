@@ -12,11 +12,11 @@ use Rattle.lists.specs.Blocks.{Bytes, cut, blocks}
 use Rattle.lists.proofs.TabulationLaws.{length-tab, getD-tab, tab-ext, tab-more}
 use Rattle.lists.proofs.ChunkLaws.{tab-append, tab-rows}
 use Rattle.lists.proofs.PartLaws.{grown, part-end}
+use Rattle.lists.proofs.BlockLaws.{bytes-append}
 use Rattle.cipher.specs.Coding.{setOf, coded, byteCoded}
 use Rattle.cipher.proofs.InverseLaws.{coded-each}
 use Rattle.pad.specs.Padding.{codedText}
 use Rattle.pad.specs.Images.{imagesOf, imageAt, codedPart}
-use Rattle.pad.proofs.PadLaws.{bytes-append}
 
 -- ---- the table of images
 

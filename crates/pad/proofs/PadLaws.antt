@@ -16,11 +16,6 @@ use Rattle.pad.specs.Padding.{sealingAdded, paddedForSealing, lastByte, 
 
 -- ---- bytes
 
-pub bytes-append : (a b : List ℕ) → Bytes a → Bytes b → Bytes (a ++ b)
-bytes-append [] b ha hb k = hb k
-bytes-append (x ∷ a) b ha hb zero = ha zero
-bytes-append (x ∷ a) b ha hb (suc k) = bytes-append a b (λ i. ha (suc i)) hb k
-
 bytes-replicate : (n v : ℕ) → v < 256 → Bytes (replicate n v)
 bytes-replicate zero v h k = lit< tt
 bytes-replicate (suc n) v h zero = h

@@ -1,0 +1,39 @@
+-- Comparing a tag: two blocks are the same or not, and a tag decoded is the CMAC exactly if the CMAC coded is the tag.
+-- Assumes nothing.
+use mathlib.Core.Path.{_≡_, refl, sym, ap, _∙_}
+use mathlib.Core.Bool.{Bool, true, false}
+use mathlib.Core.List.{List}
+use Prim.Native.Nat.{ℕ, _<_}
+use native.Mathlib.Omega.{arith}
+use borrow.Author.Tests.{eq-eqb, eqb-true}
+use lib.Dec.{eqb}
+use lib.ListN.{length, getD}
+use lib.Seq.{ext-getD}
+use Rattle.lists.specs.Blocks.{Block}
+use Rattle.lists.specs.Every.{every}
+use Rattle.lists.proofs.EveryLaws.{every-all, all-every}
+use Rattle.cipher.specs.Coding.{Set, Permutations, coded, decoded}
+use Rattle.cipher.proofs.CodingLaws.{block-coded, block-decoded, coded-decoded, decoded-coded}
+use Rattle.archive.specs.Archive.{sameBlock}
+
+pub same-true : (a b : List ℕ) → length a ≡ 16 → length b ≡ 16 → sameBlock a b ≡ true → a ≡ b
+unfolding sameBlock
+same-true a b ha hb e =
+    ext-getD 0 a b (ha ∙ sym hb) (λ k h. eqb-true (getD a k 0) (getD b k 0) (every-all 16 (λ k. eqb (getD a k 0) (getD b k 0)) e k (omega arith)))
+
+pub true-same : (a b : List ℕ) → a ≡ b → sameBlock a b ≡ true
+unfolding sameBlock
+true-same a b e = all-every 16 (λ k. eqb (getD a k 0) (getD b k 0)) (λ k h. eq-eqb (getD a k 0) (getD b k 0) (ap (λ (l : List ℕ). getD l k 0) e))
+
+pub same-coded : (S : Set) → Permutations S → (t m : List ℕ) → Block t → Block m → sameBlock (coded S m) t ≡ sameBlock (decoded S t) m
+same-coded S p t m ht hm = go (sameBlock (coded S m) t) refl (sameBlock (decoded S t) m) refl
+  where
+    go : (x : Bool) → sameBlock (coded S m) t ≡ x → (y : Bool) → sameBlock (decoded S t) m ≡ y → x ≡ y
+    go true e true f = refl
+    go false e false f = refl
+    go true e false f =
+        let q : decoded S t ≡ m = ap (decoded S) (sym (same-true (coded S m) t (block-coded S p m .size) (ht .size) e)) ∙ decoded-coded S p m hm in
+        sym (true-same (decoded S t) m q) ∙ f
+    go false e true f =
+        let q : coded S m ≡ t = ap (coded S) (sym (same-true (decoded S t) m (block-decoded S p t .size) (hm .size) f)) ∙ coded-decoded S p t ht in
+        sym e ∙ true-same (coded S m) t q

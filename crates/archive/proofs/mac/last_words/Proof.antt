@@ -1,0 +1,26 @@
+-- `mac::last_words` meets its contract. Assumes nothing.
+use mathlib.Core.Path.{ap₂, _∙_}
+use native.Mathlib.Omega.{arith}
+use borrow.Author.Needs.{needs}
+use Rattle.lists.proofs.BlockLaws.{bytes-of}
+use Rattle.cipher.specs.Word.{xorWords}
+use Rattle.archive.proofs.MacLaws.{last-whole, last-part}
+use Rattle.archive.proofs.mac.last_words.Statement.{statement}
+use Rattle.archive.proofs.mac.last_words.Tie as tie
+
+returns : tie.Need-returns
+returns c =
+    let f = c .before .before .before .before .before .before .before in
+    let s = f .before .before in
+    let k = s .args .keys in
+    last-whole (k .k1) (k .k2) (s .args .part .now) _ _ (f .filled .ensures) (bytes-of (s .args .part .now) (λ j b. omega (arith, f .before .shared-slice-known .given j))) (s .pre .1 .bytes) (c .before .before .before .before .before .before .if1 .taken) (c .xor .ensures ∙ ap₂ xorWords (c .before .before .before .words .ensures) (c .before .words2 .ensures))
+
+returns-2 : tie.Need-returns-2
+returns-2 c =
+    let f = c .before .before .before .before .before .before .before in
+    let s = f .before .before in
+    let k = s .args .keys in
+    last-part (k .k1) (k .k2) (s .args .part .now) _ _ (f .filled .ensures) (bytes-of (s .args .part .now) (λ j b. omega (arith, f .before .shared-slice-known .given j))) (s .pre .2 .bytes) (c .before .before .before .before .before .before .if1 .left) (c .xor2 .ensures ∙ ap₂ xorWords (c .before .before .before .words3 .ensures) (c .before .words4 .ensures))
+
+pub last-words-spec : {M : Type 1} → statement M
+last-words-spec = tie.close (tie.spec (λ c κs. search needs) (λ c. search needs) (λ c κs. search needs) (λ c. search needs) (λ c κs. search needs) (λ c κs. search needs) returns (λ c. search needs) (λ c κs. search needs) (λ c. search needs) (λ c κs. search needs) (λ c κs. search needs) returns-2)

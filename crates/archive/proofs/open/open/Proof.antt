@@ -1,0 +1,146 @@
+-- `open::open` meets its contract. Assumes nothing.
+use mathlib.Core.Path.{_≡_, sym, _∙_}
+use Prim.Native.Nat.{_%_, _≤_, _<_}
+use native.Mathlib.Omega.{arith}
+use borrow.Author.Needs.{needs}
+use lib.ListN.{length}
+use Rattle.lists.proofs.BlockLaws.{bytes-of}
+use Rattle.cipher.specs.KeySize.{keyLength}
+use Rattle.cipher.specs.Coding.{LowSet}
+use Rattle.cipher.specs.Chain.{LoneSet}
+use Rattle.archive.specs.Blocks.{WordRows}
+use Rattle.cipher.proofs.KeySizeLaws.{found-length}
+use Rattle.cipher.proofs.AnswerLaws.{text-known}
+use Rattle.archive.proofs.AnswerLaws.{set-done, open-1, open-set, open-7, open-8, open-9}
+use Rattle.archive.proofs.OpenedLaws.{set-inverts, codes-ready, rows-ready, open-bad, few, room-left, open-made}
+use Rattle.archive.proofs.open.open.Statement.{statement}
+use Rattle.archive.proofs.open.open.Tie as tie
+
+-- the set is one
+set-is : (c : tie.Else1) → LoneSet (c .before .before .before .before .before .before .before .before .before .before .before .before .before .args .set .now)
+set-is c = set-done _ _ (c .before .before .before .check-set .ensures) (c .before .enum-told2 .given .1)
+
+-- the sealed text is whole blocks
+whole : (c : tie.Else2) → (0 < length (c .before .before .before .before .before .before .before .before .before .before .before .before .before .before .before .args .sealed .now)) × (length (c .before .before .before .before .before .before .before .before .before .before .before .before .before .before .before .args .sealed .now) ≤ 1048576) × (length (c .before .before .before .before .before .before .before .before .before .before .before .before .before .before .before .args .sealed .now) % 16 ≡ 0)
+whole c = text-known _ (sym (c .before .bad-text .ensures) ∙ c .if2 .left)
+
+-- the padding is that of a block
+few-is : (c : tie.Else4) → c .before .padding .result ≤ 16
+few-is c =
+    let r = c .before .before .before .before .before .before .before in
+    let t = r .before .before in
+    let i = t .before .before in
+    let s = i .before .before .before .before .before in
+    let a = s .before .before .before .before .before .before .before .before .args in
+    few (a .key .now) (a .set .now) (a .iv .now) (a .sealed .now) (a .out .now) _ (sym (s .before .before .of-key-len .ensures) ∙ s .size .given .1) (set-is i) (i .if1 .left) (sym (t .before .bad-text .ensures) ∙ t .if2 .left) (r .before .if3 .left) _ _ _ _ (r .schedule .ensures) (c .before .before .before .before .before .invert .ensures) (c .before .before .open-block .ensures) (c .before .padding .ensures) (c .if4 .left)
+
+-- what the functions on blocks ask for
+ready : (c : tie.After-invert) → WordRows (c .before .before .schedule .result) × (512 ≤ length (c .invert .last .1 .1 .0)) × LowSet (c .invert .last .1 .1 .0)
+ready c =
+    let i = c .before .before .before .before .before .before in
+    let q = i .before .before .before .before .before .before .before .before .before .before .before .before in
+    let a = q .before .args in
+    let r = codes-ready (a .set .now) _ (set-is i) (c .invert .ensures) in
+    (rows-ready _ (a .key .now) _ (c .before .before .schedule .ensures) (bytes-of (a .key .now) (λ j h. omega (arith, q .shared-slice-known .given j))), r .0, r .1)
+
+returns : tie.Need-returns
+returns c = sym (open-1 _ _ _ _ _ (sym (c .before .before .of-key-len .ensures) ∙ c .enum-told .given .1))
+
+returns-2 : tie.Need-returns-2
+returns-2 c =
+    let s = c .before .before .before .before .before in
+    sym (open-set _ _ _ _ _ _ (sym (s .before .before .of-key-len .ensures) ∙ s .size .given .1) _ (c .before .before .before .check-set .ensures) _ (c .before .why .given .1))
+
+returns-3 : tie.Need-returns-3
+returns-3 c =
+    let d = c .before in
+    let s = d .before .before .before .before in
+    sym (open-7 _ _ _ _ _ _ (sym (s .before .before .of-key-len .ensures) ∙ s .size .given .1) (set-done _ _ (d .before .before .check-set .ensures) (d .enum-told2 .given .1)) (c .if1 .taken))
+
+returns-4 : tie.Need-returns-4
+returns-4 c =
+    let i = c .before .before in
+    let s = i .before .before .before .before .before in
+    sym (open-8 _ _ _ _ _ _ (sym (s .before .before .of-key-len .ensures) ∙ s .size .given .1) (set-is i) (i .if1 .left) (sym (c .before .bad-text .ensures) ∙ c .if2 .taken))
+
+returns-5 : tie.Need-returns-5
+returns-5 c =
+    let t = c .before in
+    let i = t .before .before in
+    let s = i .before .before .before .before .before in
+    sym (open-9 _ _ _ _ _ _ (sym (s .before .before .of-key-len .ensures) ∙ s .size .given .1) (set-is i) (i .if1 .left) (sym (t .before .bad-text .ensures) ∙ t .if2 .left) (c .if3 .taken))
+
+schedule-requires : tie.Need-schedule-requires
+schedule-requires c κs =
+    let s = c .before .before .before .before .before .before .before .before in
+    found-length keyLength _ _ (sym (s .before .before .of-key-len .ensures) ∙ s .size .given .1)
+
+invert-requires : tie.Need-invert-requires
+invert-requires c κs =
+    let i = c .before .before .before .before .before in
+    let v = set-inverts _ (set-is i) in
+    (v .0, search needs, v .1)
+
+sub-k : tie.Need-sub-k
+sub-k c =
+    let t = c .before .before .before .before .before in
+    omega (arith, text-known _ (sym (t .before .bad-text .ensures) ∙ t .if2 .left) .0, text-known _ (sym (t .before .bad-text .ensures) ∙ t .if2 .left) .2)
+
+open-block-requires : tie.Need-open-block-requires
+open-block-requires c κs =
+    let t = c .before .before .before .before .before .before in
+    let i = t .before .before in
+    let r = ready (c .before .before) in
+    (r .0, r .1, r .2, i .if1 .left, omega (arith, whole t .0, whole t .2))
+
+returns-6 : tie.Need-returns-6
+returns-6 c =
+    let r = c .before .before .before .before .before .before .before in
+    let t = r .before .before in
+    let i = t .before .before in
+    let s = i .before .before .before .before .before in
+    sym (open-bad _ _ _ _ _ _ (sym (s .before .before .of-key-len .ensures) ∙ s .size .given .1) (set-is i) (i .if1 .left) (sym (t .before .bad-text .ensures) ∙ t .if2 .left) (r .before .if3 .left) _ _ _ _ (r .schedule .ensures) (c .before .before .before .before .before .invert .ensures) (c .before .before .open-block .ensures) (c .before .padding .ensures) (c .if4 .taken))
+
+open-blocks-requires : tie.Need-open-blocks-requires
+open-blocks-requires c κs =
+    let f = c .before .before in
+    let t = f .before .before .before .before .before .before .before .before .before in
+    let i = t .before .before in
+    let r = ready (f .before .before .before .before .before) in
+    (r .0, r .1, r .2, i .if1 .left, omega (arith, whole t .0, whole t .1, whole t .2), omega (arith, whole t .0, whole t .2), omega (arith, whole t .0, whole t .2, f .before .before .before .before .before .before .before .before .if3 .left))
+
+mul-put-part : tie.Need-mul-put-part
+mul-put-part c =
+    let f = c .before .before .before .before .before .before in
+    let t = f .before .before .before .before .before .before .before .before .before in
+    omega (arith, whole t .0, whole t .1, whole t .2)
+
+sub-put-part : tie.Need-sub-put-part
+sub-put-part c = few-is (c .before .before .before .before .before .before)
+
+put-part-requires : tie.Need-put-part-requires
+put-part-requires c κs =
+    let f = c .before .before .before .before .before .before in
+    let r = f .before .before .before .before .before .before .before in
+    let t = r .before .before in
+    let i = t .before .before in
+    let s = i .before .before .before .before .before in
+    (omega arith, room-left _ _ _ _ _ _ (sym (s .before .before .of-key-len .ensures) ∙ s .size .given .1) (set-is i) (i .if1 .left) (sym (t .before .bad-text .ensures) ∙ t .if2 .left) (r .before .if3 .left) _ _ _ _ (r .schedule .ensures) (f .before .before .before .before .before .invert .ensures) (f .before .before .open-block .ensures) (f .before .padding .ensures) (f .if4 .left) _ (c .before .before .before .open-blocks .ensures))
+
+sub-t15 : tie.Need-sub-t15
+sub-t15 c =
+    let f = c .before .before .before .before .before .before .before .before .before in
+    let t = f .before .before .before .before .before .before .before .before .before in
+    omega (arith, whole t .0, whole t .2, few-is f)
+
+returns-7 : tie.Need-returns-7
+returns-7 c =
+    let f = c .before .before .before .before .before .before .before .before .before in
+    let r = f .before .before .before .before .before .before .before in
+    let t = r .before .before in
+    let i = t .before .before in
+    let s = i .before .before .before .before .before in
+    open-made _ _ _ _ _ _ (sym (s .before .before .of-key-len .ensures) ∙ s .size .given .1) (set-is i) (i .if1 .left) (sym (t .before .bad-text .ensures) ∙ t .if2 .left) (r .before .if3 .left) _ _ _ _ (r .schedule .ensures) (f .before .before .before .before .before .invert .ensures) (f .before .before .open-block .ensures) (f .before .padding .ensures) (f .if4 .left) _ _ (c .before .before .before .before .before .before .open-blocks .ensures) (c .before .before .put-part .ensures)
+
+pub open-spec : {M : Type 1} → statement M
+open-spec = tie.close (tie.spec (λ c κs. search needs) (λ c. search needs) (λ c. search needs) returns (λ c κs. search needs) (λ c. search needs) returns-2 (λ c. search needs) returns-3 (λ c κs. search needs) returns-4 returns-5 schedule-requires (λ c. search needs) invert-requires sub-k (λ c. search needs) open-block-requires (λ c κs. search needs) returns-6 (λ c. search needs) open-blocks-requires mul-put-part sub-put-part put-part-requires sub-t15 (λ c. search needs) returns-7)

@@ -1,0 +1,24 @@
+-- A sealed text opened block by block, by codes of its own set S and any rows: inner functions' own words for `openedText`.
+-- Assumes nothing.
+use mathlib.Core.List.{List, []}
+use Prim.Native.Nat.{ℕ, zero, suc, _*_, _^_}
+use lib.ListN.{getD, take, drop}
+use Rattle.lists.specs.Blocks.{Below, xorBlock}
+use Rattle.cipher.specs.Lea.{undoneRounds}
+use Rattle.cipher.specs.Coding.{Set, coded}
+
+-- rows of words
+abbrev pub WordRows : List (List ℕ) → Type 0
+WordRows rows = (l : ℕ) → Below (2 ^ 32) (getD rows l [])
+
+-- block k of a text, and what stands in front of it: the IV in front of the first
+abbrev pub blockOf : List ℕ → ℕ → List ℕ
+blockOf text k = take 16 (drop (16 * k) text)
+
+unfoldable pub blockBefore : List ℕ → List ℕ → ℕ → List ℕ
+blockBefore iv text zero = iv
+blockBefore iv text (suc k) = blockOf text k
+
+-- block k opened
+unfoldable pub openedBlock : List (List ℕ) → ℕ → Set → List ℕ → List ℕ → ℕ → List ℕ
+openedBlock rows r S iv text k = xorBlock (undoneRounds rows r (coded S (blockOf text k))) (coded S (blockBefore iv text k))

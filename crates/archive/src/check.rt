@@ -1,0 +1,59 @@
+// Checking a tag (document 01, "Pad, driver, archive", its last sentence).
+ghost use mathlib.Core.Path.{_≡_};
+ghost use lib.ListN.{length};
+ghost use Rattle.archive.specs.Archive as R;
+use crate::mac::cmac;
+use cipher::block::code_block;
+use cipher::chain::check_set;
+use cipher::refusal::Outcome;
+use cipher::refusal::Refusal;
+use cipher::schedule::schedule;
+use cipher::size::KeySize;
+use cipher::size::SizeFound;
+
+// The verdict on a tag, or why there is none.
+pub enum Checked {
+    Valid,
+    Invalid,
+    Refused(Refusal),
+}
+
+// The longest message, in bytes.
+const LONGEST: usize = 1048575;
+
+// Whether a block is what a slice of 16 bytes holds.
+fn same(a: [u8; 16], b: &[u8]) -> bool
+    requires { ⌜ length (now b) ≡ 16 ⌝ }
+    ensures { λ r. ⌜ r ≡ R.sameBlock a (now (b .entry)) ⌝ }
+{
+    for k in 0..16 {
+        if a[k] != b[k] {
+            return false;
+        }
+    }
+    true
+}
+
+// Whether a tag, coded by set r, is that of a message under a key. The message's own tag is coded
+// and compared.
+pub fn check(key: &[u8], set: &[u8], message: &[u8], tag: &[u8]) -> Checked
+    ensures { λ r. ⌜ R.checkedTold r ≡ R.checkAnswer (now (key .entry)) (now (set .entry)) (now (message .entry)) (now (tag .entry)) ⌝ }
+{
+    let SizeFound::Found(size) = KeySize::of_key_len(key.len()) else {
+        return Checked::Refused(Refusal::KeyLength);
+    };
+    if let Outcome::Refused(why) = check_set(set) {
+        return Checked::Refused(why);
+    }
+    if tag.len() != 16 {
+        return Checked::Refused(Refusal::BlockLength);
+    }
+    if LONGEST < message.len() {
+        return Checked::Refused(Refusal::MessageLength);
+    }
+    let mac = cmac(schedule(size, key), size, message);
+    if same(code_block(set, mac), tag) {
+        return Checked::Valid;
+    }
+    Checked::Invalid
+}

@@ -1,0 +1,64 @@
+// Opening a sealed file (document 01, "Pad, driver, archive").
+ghost use mathlib.Core.Path.{_≡_};
+ghost use mathlib.Core.List.{_++_};
+ghost use Prim.Native.Nat.{_+_, _≤_};
+ghost use lib.ListN.{length, take, drop};
+ghost use Rattle.cipher.specs.Refusal.{writtenOf};
+ghost use Rattle.archive.specs.Archive as R;
+use crate::blocks::open_block;
+use crate::blocks::open_blocks;
+use crate::padding::padding;
+use cipher::block::bad_text;
+use cipher::chain::check_set;
+use cipher::invert::invert;
+use cipher::refusal::Outcome;
+use cipher::refusal::Refusal;
+use cipher::refusal::Written;
+use cipher::schedule::schedule;
+use cipher::size::KeySize;
+use cipher::size::SizeFound;
+
+// The first n bytes of a block over those of out from a place on.
+fn put_part(out: &mut [u8], at: usize, b: [u8; 16], n: usize)
+    requires { ⌜ (n ≤ 16) × (at + n ≤ length (now out)) ⌝ }
+    ensures { λ _. ⌜ now (out .exit) ≡ take at (now (out .entry)) ++ take n b ++ drop (at + n) (now (out .entry)) ⌝ }
+{
+    for k in 0..n {
+        out[at + k] = b[k];
+    }
+}
+
+// A sealed file opened under a key, with its set r and its IV: the message into the front of out.
+// The padding is judged before anything is written.
+pub fn open(key: &[u8], set: &[u8], iv: &[u8], sealed: &[u8], out: &mut [u8]) -> Written
+    ensures { λ r. ⌜ (writtenOf r, now (out .exit)) ≡ R.openAnswer (now (key .entry)) (now (set .entry)) (now (iv .entry)) (now (sealed .entry)) (now (out .entry)) ⌝ }
+{
+    let SizeFound::Found(size) = KeySize::of_key_len(key.len()) else {
+        return Written::Refused(Refusal::KeyLength);
+    };
+    if let Outcome::Refused(why) = check_set(set) {
+        return Written::Refused(why);
+    }
+    if iv.len() != 16 {
+        return Written::Refused(Refusal::BlockLength);
+    }
+    let n = sealed.len();
+    if bad_text(n) {
+        return Written::Refused(Refusal::MessageLength);
+    }
+    if out.len() < n {
+        return Written::Refused(Refusal::ShortBuffer);
+    }
+    let rows = schedule(size, key);
+    let mut codes = [0u8; KeySize::SET];
+    invert(set, KeySize::SET_CODINGS, &mut codes);
+    let k = n / 16 - 1;
+    let last = open_block(rows, size, &codes, iv, sealed, k);
+    let v = padding(last);
+    if v == 0 {
+        return Written::Refused(Refusal::BadPadding);
+    }
+    open_blocks(rows, size, &codes, iv, sealed, k, out);
+    put_part(out, 16 * k, last, 16 - v);
+    Written::Bytes(n - v)
+}
