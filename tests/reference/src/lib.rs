@@ -3,6 +3,7 @@
 
 pub mod book;
 pub mod chain;
+pub mod driver;
 pub mod lea;
 pub mod pad;
 pub mod refusal;

@@ -1,4 +1,4 @@
-//! The numbers of the refusals (01, "Refusals from the input").
+//! The numbers of the refusals (01, "Refusals from the input" and "Refusals from the state").
 
 /// The key has none of the three sizes.
 pub const KEY_LENGTH: u32 = 1;
@@ -10,9 +10,17 @@ pub const NO_PERMUTATION: u32 = 3;
 pub const WORD_RULE: u32 = 4;
 /// A mask is over 1, or not 0 at half byte 0.
 pub const MASK: u32 = 5;
-/// A block is not of 16 bytes.
+/// A book has none of the three lengths, or the tables of a round not 18,432 bytes.
+pub const BOOK_LENGTH: u32 = 6;
+/// A block or IV is not of 16 bytes.
 pub const BLOCK_LENGTH: u32 = 7;
-/// A message has over 1,048,575 bytes.
+/// A message has over 1,048,575 bytes; a coded one none, over 1,048,576, or a part of a block.
 pub const MESSAGE_LENGTH: u32 = 8;
 /// The output is shorter than what is to be written.
 pub const SHORT_OUTPUT: u32 = 9;
+/// A kind is neither 0 nor 1.
+pub const KIND: u32 = 10;
+/// A call on a finished session.
+pub const FINISHED: u32 = 21;
+/// A block call after 65,535 of them.
+pub const LIMIT: u32 = 22;

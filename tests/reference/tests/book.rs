@@ -1,52 +1,11 @@
 //! Books of the reference by what they are for: their tables, run on coded blocks and decoded, do
 //! what LEA does.
 
-use reference::book::{self, ADD, FOLD, GROUP, ROUND, START, TURN};
-use reference::chain::{self, MIDDLES, SET};
+use reference::book::{self, GROUP, ROUND, START};
+use reference::chain::{self, SET};
+use reference::driver::{block, fold, halves, round};
 use reference::lea::{self, Block};
 use reference::Size;
-
-/// The half bytes of a block: half byte j of word w at 8w + j.
-type Halves = [u8; 32];
-
-fn halves(block: &Block) -> Halves {
-    std::array::from_fn(|p| block[p / 2] >> (4 * (p % 2)) & 15)
-}
-
-fn block(halves: &Halves) -> Block {
-    std::array::from_fn(|k| halves[2 * k] + 16 * halves[2 * k + 1])
-}
-
-/// One round of tables.
-fn round(tables: &[u8], old: &Halves) -> Halves {
-    let (adds, turns) = tables.split_at(MIDDLES * ADD);
-    let mut sums = [0; MIDDLES];
-    for i in 0..3 {
-        let mut carry = 0;
-        for k in 8 * i..8 * i + 8 {
-            let index = 256 * carry + 16 * usize::from(old[k]) + usize::from(old[k + 8]);
-            let entry = adds[ADD * k + index];
-            sums[k] = entry & 15;
-            carry = usize::from(entry >> 4 & 1);
-        }
-    }
-    let from = |k: usize, j: usize| usize::from(sums[k - k % 8 + j % 8]);
-    std::array::from_fn(|k| {
-        let j = k % 8;
-        let pair = match k / 8 {
-            0 => 16 * from(k, j + 6) + from(k, j + 5),
-            1 => 16 * from(k, j + 2) + from(k, j + 1),
-            2 => 16 * from(k, j + 1) + from(k, j),
-            _ => return old[j],
-        };
-        turns[TURN * k + pair] & 15
-    })
-}
-
-/// A block folded in by one group of tables.
-fn fold(group: &[u8], text: &Halves, message: &Halves) -> Halves {
-    std::array::from_fn(|p| group[FOLD * p + 16 * usize::from(text[p]) + usize::from(message[p])])
-}
 
 fn decode(set: &[u8], coded: &Block) -> Block {
     let mut inverse = [0; SET];
