@@ -1,5 +1,5 @@
 /*
- * Bowlinette: the cipher LEA, and the codings for table books of it, for C programs. Link
+ * Bowlinette: the cipher LEA, table books of it, and what is done with them, for C programs. Link
  * libexports.a.
  *
  * Every function returns 0, or the number of a refusal. Where several refusals apply, the lowest
@@ -27,9 +27,13 @@ extern "C" {
 #define BOWLINETTE_REFUSED_NO_PERMUTATION 3 /* a coding is no permutation of 0 to 15 */
 #define BOWLINETTE_REFUSED_WORD_RULE 4      /* word 3 of a set differs from word 0 of the set before */
 #define BOWLINETTE_REFUSED_MASK 5           /* a mask is over 1, or not 0 for half byte 0 */
-#define BOWLINETTE_REFUSED_BLOCK_LENGTH 7   /* the block is not of 16 bytes */
-#define BOWLINETTE_REFUSED_MESSAGE_LENGTH 8 /* the message is over 1,048,575 bytes */
+#define BOWLINETTE_REFUSED_BOOK_LENGTH 6    /* the book has none of the three lengths */
+#define BOWLINETTE_REFUSED_BLOCK_LENGTH 7   /* the block or IV is not of 16 bytes */
+#define BOWLINETTE_REFUSED_MESSAGE_LENGTH 8 /* the message, or the coded message, has a wrong length */
 #define BOWLINETTE_REFUSED_ROOM 9           /* out is shorter than what would be written */
+#define BOWLINETTE_REFUSED_KIND 10          /* the kind is neither 0 nor 1 */
+#define BOWLINETTE_REFUSED_FINISHED 21      /* a block or last call on a finished session */
+#define BOWLINETTE_REFUSED_LIMIT 22         /* a block call after 65,535 accepted ones */
 
 /* A block, in bytes, and the round keys of one round, in 32-bit words. */
 #define BOWLINETTE_BLOCK_LENGTH 16
@@ -43,16 +47,17 @@ extern "C" {
 #define BOWLINETTE_SET_LENGTH 512
 
 /*
- * The longest message, and the most bytes that a coding of a message has. The kind says whether a
- * coding for a tag has padding: 0 no, 1 yes.
+ * The longest message, and the most bytes that a coded message has. The kind says whether a message
+ * coded for a tag has padding: 0 no, 1 yes.
  */
 #define BOWLINETTE_MESSAGE_LENGTH_MAX 1048575
 #define BOWLINETTE_CODE_LENGTH_MAX 1048576
 #define BOWLINETTE_KIND_WHOLE 0
 #define BOWLINETTE_KIND_PADDED 1
 
-/* The tables of one round of a book, in bytes. */
+/* The tables of one round of a book, in bytes, and the block calls that a tag session takes. */
 #define BOWLINETTE_ROUND_LENGTH 18432
+#define BOWLINETTE_BLOCK_CALLS_MAX 65535
 
 /* The three key sizes: the key in bytes, its rounds, its chain and its book in bytes. */
 #define BOWLINETTE_KEY_LENGTH_128 16
@@ -159,6 +164,75 @@ uint32_t bowlinette_code_for_tag(const uint8_t *u, size_t u_length,
                                  const uint8_t *message, size_t message_length,
                                  uint8_t *out, size_t out_length,
                                  uint64_t *length, uint8_t *kind);
+
+/*
+ * The functions below use a book's length to know its rounds, and read its bytes as they are: of an
+ * entry of an add table the bits 0 to 4, of any other entry the bits 0 to 3. Blocks go in and come
+ * out coded.
+ *
+ * Takes one block through the tables of one round, 18,432 bytes, and writes the 16 bytes that stand
+ * after it to out.
+ * Refuses 6 (length of the tables), then 7 (block length).
+ */
+uint32_t bowlinette_run_round(const uint8_t *tables, size_t tables_length,
+                              const uint8_t *block, size_t block_length,
+                              uint8_t *out);
+
+/*
+ * Takes one block through the first rounds of a book and writes the 16 bytes that stand after them
+ * to out. With 0 rounds that is the block; a count above the book's rounds means all of them.
+ * Refuses 6 (book length), then 7 (block length).
+ */
+uint32_t bowlinette_run_rounds(const uint8_t *book, size_t book_length,
+                               size_t rounds,
+                               const uint8_t *block, size_t block_length,
+                               uint8_t *out);
+
+/*
+ * Seals a message coded for sealing: from the IV, taken as coded by the last set, each block is folded
+ * in, goes through the rounds and is written, to the front of out, which may be longer: the bytes
+ * behind them stay as they were. How many were written, as many as were read, goes to length.
+ * Refuses 6 (book length), 7 (IV length), 8 (coded empty, over 1,048,576 bytes or no multiple of 16),
+ * then 9 (out shorter than coded).
+ */
+uint32_t bowlinette_seal(const uint8_t *book, size_t book_length,
+                         const uint8_t *iv, size_t iv_length,
+                         const uint8_t *coded, size_t coded_length,
+                         uint8_t *out, size_t out_length,
+                         uint64_t *length);
+
+/*
+ * A tag session is three things that the caller keeps, in places that do not overlap, and that only
+ * these three functions should write: a block of 16 bytes; taken, the number of block calls accepted
+ * so far; and finished, 0 until a last call is accepted and then 1 (any other number is taken as 1).
+ * All calls of a session should get the same book. A message coded for a tag goes in a block at a
+ * time, its last block and its kind by the last call.
+ *
+ * Begins a session, whatever the three held: the block is the book's start, taken and finished are 0.
+ * Refuses 6 (book length).
+ */
+uint32_t bowlinette_begin(uint8_t *block, uint16_t *taken, uint8_t *finished,
+                          const uint8_t *book, size_t book_length);
+
+/*
+ * A block call: folds the coded block into the session's, takes that through the rounds, and adds 1
+ * to taken.
+ * Refuses 6 (book length), 7 (length of coded), 21 (session finished), then 22 (65,535 taken).
+ */
+uint32_t bowlinette_block_call(uint8_t *block, uint16_t *taken, uint8_t *finished,
+                               const uint8_t *book, size_t book_length,
+                               const uint8_t *coded, size_t coded_length);
+
+/*
+ * A last call: folds in the last coded block by its kind, takes that through the rounds, writes the 16
+ * bytes of the tag to tag, and sets finished to 1. The session's block and taken stay as they were.
+ * Refuses 6 (book length), 7 (length of coded), 10 (kind), then 21 (session finished).
+ */
+uint32_t bowlinette_last_call(uint8_t *block, uint16_t *taken, uint8_t *finished,
+                              const uint8_t *book, size_t book_length,
+                              const uint8_t *coded, size_t coded_length,
+                              uint8_t kind,
+                              uint8_t *tag);
 
 #ifdef __cplusplus
 }

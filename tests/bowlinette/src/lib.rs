@@ -80,6 +80,59 @@ mod c {
             length: *mut u64,
             kind: *mut u8,
         ) -> u32;
+        pub fn bowlinette_run_round(
+            tables: *const u8,
+            tables_length: usize,
+            block: *const u8,
+            block_length: usize,
+            out: *mut u8,
+        ) -> u32;
+        pub fn bowlinette_run_rounds(
+            book: *const u8,
+            book_length: usize,
+            rounds: usize,
+            block: *const u8,
+            block_length: usize,
+            out: *mut u8,
+        ) -> u32;
+        pub fn bowlinette_seal(
+            book: *const u8,
+            book_length: usize,
+            iv: *const u8,
+            iv_length: usize,
+            coded: *const u8,
+            coded_length: usize,
+            out: *mut u8,
+            out_length: usize,
+            length: *mut u64,
+        ) -> u32;
+        pub fn bowlinette_begin(
+            block: *mut u8,
+            taken: *mut u16,
+            finished: *mut u8,
+            book: *const u8,
+            book_length: usize,
+        ) -> u32;
+        pub fn bowlinette_block_call(
+            block: *mut u8,
+            taken: *mut u16,
+            finished: *mut u8,
+            book: *const u8,
+            book_length: usize,
+            coded: *const u8,
+            coded_length: usize,
+        ) -> u32;
+        pub fn bowlinette_last_call(
+            block: *mut u8,
+            taken: *mut u16,
+            finished: *mut u8,
+            book: *const u8,
+            book_length: usize,
+            coded: *const u8,
+            coded_length: usize,
+            kind: u8,
+            tag: *mut u8,
+        ) -> u32;
     }
 }
 
@@ -230,5 +283,110 @@ pub fn code_for_tag(
             length,
             kind,
         )
+    }
+}
+
+/// A block through the tables of one round, into out.
+#[inline]
+pub fn run_round(tables: &[u8], block: &[u8], out: &mut [u8; 16]) -> u32 {
+    unsafe {
+        c::bowlinette_run_round(
+            tables.as_ptr(),
+            tables.len(),
+            block.as_ptr(),
+            block.len(),
+            out.as_mut_ptr(),
+        )
+    }
+}
+
+/// A block through the first rounds of a book, into out.
+#[inline]
+pub fn run_rounds(book: &[u8], rounds: usize, block: &[u8], out: &mut [u8; 16]) -> u32 {
+    unsafe {
+        c::bowlinette_run_rounds(
+            book.as_ptr(),
+            book.len(),
+            rounds,
+            block.as_ptr(),
+            block.len(),
+            out.as_mut_ptr(),
+        )
+    }
+}
+
+/// A coded message sealed, to the front of out, and the length of that, into length.
+#[inline]
+pub fn seal(book: &[u8], iv: &[u8], coded: &[u8], out: &mut [u8], length: &mut u64) -> u32 {
+    unsafe {
+        c::bowlinette_seal(
+            book.as_ptr(),
+            book.len(),
+            iv.as_ptr(),
+            iv.len(),
+            coded.as_ptr(),
+            coded.len(),
+            out.as_mut_ptr(),
+            out.len(),
+            length,
+        )
+    }
+}
+
+/// The three things that make a tag session.
+#[derive(Clone, Copy, Debug, PartialEq, Eq)]
+pub struct Session {
+    pub block: [u8; 16],
+    pub taken: u16,
+    pub finished: u8,
+}
+
+impl Session {
+    /// Begins the session.
+    #[inline]
+    pub fn begin(&mut self, book: &[u8]) -> u32 {
+        unsafe {
+            c::bowlinette_begin(
+                self.block.as_mut_ptr(),
+                &mut self.taken,
+                &mut self.finished,
+                book.as_ptr(),
+                book.len(),
+            )
+        }
+    }
+
+    /// A block call.
+    #[inline]
+    pub fn block_call(&mut self, book: &[u8], coded: &[u8]) -> u32 {
+        unsafe {
+            c::bowlinette_block_call(
+                self.block.as_mut_ptr(),
+                &mut self.taken,
+                &mut self.finished,
+                book.as_ptr(),
+                book.len(),
+                coded.as_ptr(),
+                coded.len(),
+            )
+        }
+    }
+
+    /// A last call, its tag into tag.
+    #[inline]
+    pub fn last_call(&mut self, book: &[u8], coded: &[u8], kind: u8, tag: &mut [u8; 16]) -> u32 {
+        unsafe {
+            c::bowlinette_last_call(
+                self.block.as_mut_ptr(),
+                &mut self.taken,
+                &mut self.finished,
+                book.as_ptr(),
+                book.len(),
+                coded.as_ptr(),
+                coded.len(),
+                kind,
+                tag.as_mut_ptr(),
+            )
+        }
     }
 }

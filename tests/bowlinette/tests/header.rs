@@ -1,7 +1,8 @@
 //! include/bowlinette.h as a C program sees it: tests/c/header.c is compiled with it as C99, linked
 //! with the static library and run, and must print what the reference says.
 
-use reference::{lea, Size};
+use reference::driver::{self, Session};
+use reference::{book, lea, Size};
 use std::path::Path;
 use std::process::Command;
 
@@ -40,7 +41,36 @@ fn due() -> Vec<String> {
     lines.push(line(Ok(*b"in ink\x0a\x0a\x0a\x0a\x0a\x0a\x0a\x0a\x0a\x0a")));
     lines.push(line(Ok(*b"in ink\x80\0\0\0\0\0\0\0\0\0")));
     lines.push("1 1 1 1 1 1".into());
+    lines.extend(due_driver());
     lines
+}
+
+/// Those of the driver.
+fn due_driver() -> Vec<String> {
+    let size = Size::Lea192;
+    let book: Vec<u8> = (0..size.book_bytes())
+        .map(|i| (i % 251 * 77) as u8)
+        .collect();
+    let coded: Vec<u8> = (0..32).map(|i| (13 * i) as u8).collect();
+    let (first, last) = coded.split_at(16);
+    let mut sealed = [0; 32];
+    let written = driver::seal(&book, first, &coded, &mut sealed);
+    let mut session = Session::begin(&book).unwrap();
+    let start = session.block;
+    let number = session.block_call(&book, first);
+    let running = session.block;
+    vec![
+        line(driver::run_round(&book[..book::ROUND], first)),
+        line(driver::run_rounds(&book, size.rounds(), first)),
+        line(written.map(|_| sealed[16..].try_into().unwrap())),
+        "1".into(),
+        line(Ok(start)),
+        "1 1".into(),
+        line(number.map(|()| running)),
+        "1".into(),
+        line(session.last_call(&book, last, 1)),
+        "1 1 1 1 1".into(),
+    ]
 }
 
 #[test]

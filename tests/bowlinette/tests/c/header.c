@@ -51,6 +51,42 @@ static void codes(void)
     printf(" %d\n", BOWLINETTE_CODE_LENGTH_MAX == BOWLINETTE_MESSAGE_LENGTH_MAX + 1);
 }
 
+/* Every function of the driver on bytes of a book's length, which are no book's. */
+static void driver(void)
+{
+    static uint8_t book[BOWLINETTE_BOOK_LENGTH_192], coded[2 * BOWLINETTE_BLOCK_LENGTH];
+    uint8_t block[BOWLINETTE_BLOCK_LENGTH], out[2 * BOWLINETTE_BLOCK_LENGTH], finished = 9;
+    const size_t length = sizeof book, one = BOWLINETTE_BLOCK_LENGTH;
+    uint64_t written = 0;
+    uint16_t taken = 9;
+    size_t i;
+
+    for (i = 0; i < sizeof book; i++)
+        book[i] = (uint8_t)(i % 251 * 77);
+    for (i = 0; i < sizeof coded; i++)
+        coded[i] = (uint8_t)(13 * i);
+    show(bowlinette_run_round(book, BOWLINETTE_ROUND_LENGTH, coded, one, out), out);
+    show(bowlinette_run_rounds(book, length, BOWLINETTE_ROUNDS_192, coded, one, out), out);
+    show(bowlinette_seal(book, length, coded, one, coded, 2 * one, out, sizeof out, &written), out + one);
+    printf("%d\n", written == 2 * one);
+    show(bowlinette_begin(block, &taken, &finished, book, length), block);
+    printf("%d %d\n", taken == 0, finished == 0);
+    show(bowlinette_block_call(block, &taken, &finished, book, length, coded, one), block);
+    printf("%d\n", taken == 1);
+    show(bowlinette_last_call(block, &taken, &finished, book, length, coded + one, one,
+                              BOWLINETTE_KIND_PADDED, out), out);
+    printf("%d", finished == 1);
+    printf(" %d", bowlinette_begin(block, &taken, &finished, book, one) == BOWLINETTE_REFUSED_BOOK_LENGTH);
+    printf(" %d", bowlinette_last_call(block, &taken, &finished, book, length, coded, one, 2, out)
+                      == BOWLINETTE_REFUSED_KIND);
+    printf(" %d", bowlinette_block_call(block, &taken, &finished, book, length, coded, one)
+                      == BOWLINETTE_REFUSED_FINISHED);
+    taken = BOWLINETTE_BLOCK_CALLS_MAX;
+    finished = 0;
+    printf(" %d\n", bowlinette_block_call(block, &taken, &finished, book, length, coded, one)
+                        == BOWLINETTE_REFUSED_LIMIT);
+}
+
 int main(void)
 {
     uint8_t key[BOWLINETTE_KEY_LENGTH_256], block[BOWLINETTE_BLOCK_LENGTH + 1];
@@ -82,5 +118,6 @@ int main(void)
     printf("\n");
     checks();
     codes();
+    driver();
     return 0;
 }
