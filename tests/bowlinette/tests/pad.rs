@@ -100,10 +100,8 @@ fn due(uses: Use, n: usize) -> usize {
 
 /// The coding decoded by its set.
 fn decoded(u: &[u8], code: &[u8]) -> Vec<u8> {
-    let mut inverse = vec![0; SET];
-    chain::invert(u, &mut inverse);
     code.chunks_exact(BLOCK)
-        .flat_map(|block| chain::code(&inverse, block.try_into().unwrap()))
+        .flat_map(|block| chain::decode(u, block.try_into().unwrap()))
         .collect()
 }
 

@@ -132,6 +132,13 @@ pub fn code(set: &[u8], block: &Block) -> Block {
     })
 }
 
+/// A block decoded by a set.
+pub fn decode(set: &[u8], coded: &Block) -> Block {
+    let mut inverse = [0; SET];
+    invert(set, &mut inverse);
+    code(&inverse, coded)
+}
+
 /// A valid chain by chance; `below` gives a number below its argument.
 pub fn random(size: Size, mut below: impl FnMut(usize) -> usize) -> Vec<u8> {
     let rounds = size.rounds();

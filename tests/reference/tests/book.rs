@@ -2,16 +2,10 @@
 //! what LEA does.
 
 use reference::book::{self, GROUP, ROUND, START};
-use reference::chain::{self, SET};
+use reference::chain::{self, decode};
 use reference::driver::{block, fold, halves, round};
 use reference::lea::{self, Block};
 use reference::Size;
-
-fn decode(set: &[u8], coded: &Block) -> Block {
-    let mut inverse = [0; SET];
-    chain::invert(set, &mut inverse);
-    chain::code(&inverse, coded)
-}
 
 /// Numbers below a bound, the same in every run.
 fn numbers(seed: u32) -> impl FnMut(usize) -> usize {

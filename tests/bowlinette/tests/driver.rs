@@ -1,0 +1,343 @@
+//! Rounds and sealing from books on both versions: books of random keys and chains, and random bytes
+//! of a book's length. What is written, each refusal, and what stays as it was.
+
+#[path = "shared/books.rs"]
+mod books;
+#[path = "shared/chains.rs"]
+mod chains;
+#[path = "shared/random.rs"]
+mod random;
+
+use random::Random;
+use reference::book::{ADD, GROUP, ROUND, START};
+use reference::chain::{self, MIDDLES};
+use reference::driver::{self, LONGEST};
+use reference::lea::{self, Block};
+use reference::Size;
+
+/// What buffers and lengths hold before a call.
+const FILL: u8 = 0xa5;
+const LENGTH: u64 = 0x5a5a_5a5a_5a5a_5a5a;
+
+/// What a call writes to the middle third of a filled buffer; nothing else may change, and nothing
+/// at all where the call refuses.
+fn written(call: impl FnOnce(&mut Block) -> u32) -> Result<Block, u32> {
+    let mut buffer = [FILL; 48];
+    let number = call((&mut buffer[16..32]).try_into().unwrap());
+    let out: Block = buffer[16..32].try_into().unwrap();
+    buffer[16..32].fill(FILL);
+    assert_eq!(buffer, [FILL; 48], "around what is written");
+    if number == 0 {
+        return Ok(out);
+    }
+    assert_eq!(out, [FILL; 16], "written after {number}");
+    Err(number)
+}
+
+/// A block through the first rounds of a book, the same on both versions.
+fn rounds(book: &[u8], count: usize, block: &[u8]) -> Result<Block, u32> {
+    let told = written(|out| bowlinette::run_rounds(book, count, block, out));
+    let want = driver::run_rounds(book, count, block);
+    assert_eq!(told, want, "{count} rounds, {} bytes", book.len());
+    told
+}
+
+/// A block through the tables of a round, the same on both versions.
+fn round(tables: &[u8], block: &[u8]) -> Result<Block, u32> {
+    let told = written(|out| bowlinette::run_round(tables, block, out));
+    let want = driver::run_round(tables, block);
+    assert_eq!(told, want, "{} bytes", tables.len());
+    told
+}
+
+/// A coded message sealed into a filled buffer of a length: the number, and the buffer. Both
+/// versions must do the same, which after a refusal is nothing.
+fn seal(book: &[u8], iv: &[u8], coded: &[u8], room: usize) -> (u32, Vec<u8>) {
+    let (mut out, mut other) = (vec![FILL; room], vec![FILL; room]);
+    let mut length = LENGTH;
+    let number = bowlinette::seal(book, iv, coded, &mut out, &mut length);
+    let want = driver::seal(book, iv, coded, &mut other);
+    let given = (book.len(), iv.len(), coded.len(), room);
+    assert_eq!(number, want.err().unwrap_or(0), "{given:?}");
+    assert_eq!(length, want.map_or(LENGTH, |n| n as u64), "{given:?}");
+    assert!(out == other, "{given:?}: the bytes differ");
+    if number != 0 {
+        assert!(out.iter().all(|&x| x == FILL), "{given:?}: written");
+    }
+    (number, out)
+}
+
+/// The tables of round l of a book.
+fn tables(book: &[u8], l: usize) -> &[u8] {
+    &book[START + 3 * GROUP + ROUND * l..][..ROUND]
+}
+
+/// Each count of rounds, and on from each by the tables of the next.
+#[test]
+fn rounds_of_any_count() {
+    let mut random = Random(70);
+    for (size, book) in books::any(&mut random) {
+        let (before, r) = (book.clone(), size.rounds());
+        for _ in 0..12 {
+            let block: Block = random.bytes(16).try_into().unwrap();
+            let mut x = rounds(&book, 0, &block).unwrap();
+            assert_eq!(x, block, "no rounds");
+            for l in 0..r {
+                x = round(tables(&book, l), &x).unwrap();
+                assert_eq!(rounds(&book, l + 1, &block), Ok(x), "{size:?}, {l}");
+            }
+            for more in [r + 1, r + 2, 2 * r, 255, 256, 1 << 32, usize::MAX] {
+                assert_eq!(rounds(&book, more, &block), Ok(x), "{size:?}, {more}");
+            }
+        }
+        assert!(book == before, "{size:?}, the book");
+    }
+}
+
+/// Tables and blocks of every kind of byte, also the same byte throughout.
+#[test]
+fn rounds_of_any_tables() {
+    let mut random = Random(71);
+    for _ in 0..60 {
+        let (some, block) = (random.bytes(ROUND), random.bytes(16));
+        round(&some, &block).unwrap();
+        for byte in [0x00, 0x0f, 0x10, 0x1f, 0xf0, 0xff] {
+            round(&[byte; ROUND], &block).unwrap();
+            round(&some, &[byte; 16]).unwrap();
+        }
+    }
+}
+
+/// After n rounds, decoded by set n: LEA's first n rounds of what set 0 decodes.
+#[test]
+fn rounds_of_books_are_rounds_of_the_cipher() {
+    let mut random = Random(72);
+    for size in Size::ALL {
+        let built = books::built(size, &mut random);
+        let chain = chain::check(built.key.len(), &built.chain).ok().unwrap();
+        for _ in 0..20 {
+            let coded: Block = random.bytes(16).try_into().unwrap();
+            let plain = chain::decode(chain.set(0), &coded);
+            for n in 0..=size.rounds() {
+                let x = rounds(&built.book, n, &coded).unwrap();
+                let want = lea::first_rounds(&built.key, n, &plain).unwrap();
+                assert_eq!(chain::decode(chain.set(n), &x), want, "{size:?}, {n}");
+            }
+        }
+    }
+}
+
+/// 01's example of the round program: identity codings; masks change nothing.
+#[test]
+fn the_example_of_two_rounds() {
+    let number = |hex: u128| hex.to_be_bytes();
+    let key = number(0x0f1e_2d3c_4b5a_6978_8796_a5b4_c3d2_e1f0);
+    let block = number(0x1011_1213_1415_1617_1819_1a1b_1c1d_1e1f);
+    let chain = chain::random(Size::Lea128, |bound| bound - 1);
+    let mut book = vec![0; Size::Lea128.book_bytes()];
+    assert_eq!(bowlinette::build(&key, &chain, &mut book), 0);
+    let first = number(0x5190_070f_8d66_3d69_d4cf_ede5_1011_1213);
+    let last = number(0x9fc8_4e35_28c6_c618_5532_c7a7_0464_8bfd);
+    assert_eq!(rounds(&book, 1, &block), Ok(first));
+    assert_eq!(rounds(&book, 24, &block), Ok(last));
+}
+
+/// A book with the bits that a reader does not use changed.
+fn stirred(book: &[u8], random: &mut Random) -> Vec<u8> {
+    let noise = random.bytes(book.len());
+    let unused = |at: usize| match at.checked_sub(START) {
+        None => 0,
+        Some(k) if k >= 3 * GROUP && (k - 3 * GROUP) % ROUND < MIDDLES * ADD => 0xe0,
+        Some(_) => 0xf0,
+    };
+    let changed = |(at, x): (usize, &u8)| x ^ noise[at] & unused(at);
+    book.iter().enumerate().map(changed).collect()
+}
+
+#[test]
+fn bits_that_a_reader_does_not_use() {
+    let mut random = Random(73);
+    for (size, book) in books::any(&mut random) {
+        let other = stirred(&book, &mut random);
+        assert!(other != book);
+        let (iv, coded) = (random.bytes(16), random.bytes(512));
+        for block in coded.chunks_exact(16) {
+            let told = rounds(&book, usize::MAX, block);
+            assert_eq!(rounds(&other, usize::MAX, block), told, "{size:?}");
+        }
+        let told = seal(&book, &iv, &coded, 512);
+        assert!(seal(&other, &iv, &coded, 512) == told, "{size:?}, sealed");
+    }
+}
+
+/// Lengths near those of books, and those of books of other counts of rounds.
+fn book_lengths() -> Vec<usize> {
+    let near = |s: Size| [1, 16, 65_536].map(|n| [s.book_bytes() - n, s.book_bytes() + n]);
+    let mut lengths: Vec<usize> = Size::ALL.into_iter().flat_map(near).flatten().collect();
+    lengths.extend((0..=40).map(|n| START + 3 * GROUP + ROUND * n));
+    lengths.extend([0, 1, START, ROUND]);
+    lengths
+}
+
+/// Whether a book of this length is one.
+fn has_book_length(n: usize) -> bool {
+    n == 466_960 || n == 540_688 || n == 614_416
+}
+
+/// Lengths near that of a block, and some that differ from it only above the low bits.
+const BLOCKS: [usize; 9] = [0, 1, 8, 15, 16, 17, 32, 272, 65_552];
+
+/// The first number, if any, of those whose reason holds.
+fn first(reasons: &[(u32, bool)]) -> u32 {
+    let fits = reasons.iter().find(|(_, holds)| *holds);
+    fits.map_or(0, |&(number, _)| number)
+}
+
+#[test]
+fn lengths_of_books_and_blocks() {
+    let mut random = Random(74);
+    let (bytes, text) = (random.bytes(800_000), random.bytes(65_552));
+    for n in book_lengths() {
+        for b in BLOCKS {
+            let due = first(&[(6, !has_book_length(n)), (7, b != 16)]);
+            for count in [0, 1, 24, usize::MAX] {
+                let told = rounds(&bytes[..n], count, &text[..b]);
+                assert_eq!(told.err().unwrap_or(0), due, "book of {n}, block of {b}");
+            }
+        }
+    }
+}
+
+#[test]
+fn lengths_of_tables_and_blocks() {
+    let mut random = Random(75);
+    let (bytes, text) = (random.bytes(800_000), random.bytes(65_552));
+    let others = [1, 9_216, ROUND - 1, ROUND, ROUND + 1, ROUND + 65_536];
+    for n in book_lengths().into_iter().chain(others) {
+        for b in BLOCKS {
+            let due = first(&[(6, n != 18_432), (7, b != 16)]);
+            let told = round(&bytes[..n], &text[..b]);
+            assert_eq!(told.err().unwrap_or(0), due, "tables of {n}, block of {b}");
+        }
+    }
+}
+
+#[test]
+fn sealed_messages() {
+    let mut random = Random(76);
+    for (size, book) in books::any(&mut random) {
+        let before = book.clone();
+        let some = (0..6)
+            .map(|_| 1 + usize::from(random.bytes(1)[0]))
+            .collect::<Vec<_>>();
+        for blocks in (1..=20).chain(some) {
+            let (n, iv) = (16 * blocks, random.bytes(16));
+            let coded = random.bytes(n);
+            let lent = (iv.clone(), coded.clone());
+            let (number, exact) = seal(&book, &iv, &coded, n);
+            assert_eq!(number, 0, "{size:?}, {n} bytes");
+            for more in [1, 15, 16, 100] {
+                let (number, out) = seal(&book, &iv, &coded, n + more);
+                assert!(number == 0 && out[..n] == exact, "{size:?}, {n} bytes");
+                assert!(out[n..].iter().all(|&x| x == FILL), "past the last block");
+            }
+            for room in [n - 1, n - 16, 0] {
+                assert_eq!(seal(&book, &iv, &coded, room).0, 9, "{room} for {n} bytes");
+            }
+            assert!((iv, coded) == lent, "{size:?}, IV and message");
+        }
+        assert!(book == before, "{size:?}, the book");
+    }
+}
+
+#[test]
+fn the_longest_messages() {
+    let mut random = Random(77);
+    let (coded, iv) = (random.bytes(LONGEST + 16), random.bytes(16));
+    for (size, book) in books::any(&mut random) {
+        for (n, room, due) in [
+            (LONGEST, LONGEST, 0),
+            (LONGEST, LONGEST + 5, 0),
+            (LONGEST, LONGEST - 1, 9),
+            (LONGEST + 16, LONGEST + 16, 8),
+            (LONGEST + 1, LONGEST + 16, 8),
+            (LONGEST - 1, LONGEST, 8),
+        ] {
+            assert_eq!(seal(&book, &iv, &coded[..n], room).0, due, "{size:?}, {n}");
+        }
+    }
+}
+
+/// All reasons at once and every part of them: the lowest number.
+#[test]
+fn refusals_of_sealing() {
+    let mut random = Random(78);
+    let (bytes, iv) = (random.bytes(700_000), random.bytes(32));
+    let text = random.bytes(LONGEST + 16);
+    let right = Size::ALL.map(Size::book_bytes);
+    for n in right.into_iter().chain([0, right[0] - 1, right[1] + 1]) {
+        for v in [16, 0, 15, 17, 32] {
+            for m in [
+                16,
+                48,
+                0,
+                1,
+                15,
+                17,
+                47,
+                LONGEST - 15,
+                LONGEST + 1,
+                LONGEST + 16,
+            ] {
+                for room in [m, 0, m.saturating_sub(1), m + 1] {
+                    let length = m == 0 || m > 1_048_576 || m % 16 != 0;
+                    let reasons = [
+                        (6, !has_book_length(n)),
+                        (7, v != 16),
+                        (8, length),
+                        (9, room < m),
+                    ];
+                    let (number, _) = seal(&bytes[..n], &iv[..v], &text[..m], room);
+                    let given = (n, v, m, room);
+                    assert_eq!(number, first(&reasons), "{given:?}");
+                }
+            }
+        }
+    }
+}
+
+/// A message coded for sealing and sealed, decoded by the last set: CBC, and under it the message
+/// with its padding.
+#[test]
+fn sealed_files_are_cbc() {
+    let mut random = Random(79);
+    for size in Size::ALL {
+        let built = books::built(size, &mut random);
+        let chain = chain::check(built.key.len(), &built.chain).ok().unwrap();
+        let open =
+            |block: &[u8]| chain::decode(chain.set(size.rounds()), block.try_into().unwrap());
+        for n in (0..=50).chain([255, 256, 9_412]) {
+            let (message, iv) = (random.bytes(n), random.bytes(16));
+            let (mut coded, mut length) = (vec![FILL; n + 16], 0);
+            let number =
+                bowlinette::code_for_sealing(chain.message(), &message, &mut coded, &mut length);
+            coded.truncate(length as usize);
+            assert_eq!(number, 0, "{n} bytes coded");
+            let (number, file) = seal(&built.book, &iv, &coded, coded.len());
+            assert_eq!(number, 0, "{n} bytes sealed");
+            let (mut text, mut before) = (Vec::new(), open(&iv));
+            for block in file.chunks_exact(16).map(open) {
+                let plain = lea::decipher(&built.key, &block).unwrap();
+                text.extend(plain.iter().zip(before).map(|(x, y)| x ^ y));
+                before = block;
+            }
+            let added = 16 - n % 16;
+            assert_eq!(text.len(), n + added, "{size:?}");
+            assert!(text[..n] == message, "{size:?}, {n} bytes");
+            assert!(
+                text[n..].iter().all(|&x| usize::from(x) == added),
+                "{size:?}"
+            );
+        }
+    }
+}
