@@ -1,13 +1,17 @@
 //! Times the proved library and the reference in one process and prints how they compare.
 
+mod driver;
+mod packed;
+
 use reference::{book, chain, lea, pad, Size};
 use std::hint::black_box as hide;
 use std::time::{Duration, Instant};
 
-/// How long one timed run of calls should last, and how many there are of each version (fewer where
-/// a single call is longer).
+/// How long one timed run of calls should last, how long all runs of a version, and the fewest and
+/// the most of them.
 const RUN: Duration = Duration::from_micros(20);
-const RUNS: usize = 12_000;
+const ALL: Duration = Duration::from_millis(500);
+const RUNS: [u128; 2] = [20, 12_000];
 
 /// Nanoseconds per call over so many calls.
 fn timed(calls: u32, f: &mut impl FnMut()) -> f64 {
@@ -27,18 +31,47 @@ fn calls(f: &mut impl FnMut()) -> u32 {
     n
 }
 
+/// How many runs of so many calls.
+fn runs(calls: u32, f: &mut impl FnMut()) -> u128 {
+    let one = timed(calls, f) * f64::from(calls);
+    (ALL.as_nanos() / (one as u128).max(1)).clamp(RUNS[0], RUNS[1])
+}
+
 /// Prints a row. The two versions take turns, and the fastest run of each counts: other work on
 /// the machine can only make a run slower.
 fn measure(name: &str, bytes: usize, mut rattle: impl FnMut(), mut rust: impl FnMut()) {
     let (n, m) = (calls(&mut rattle), calls(&mut rust));
     let (mut a, mut b) = (f64::INFINITY, f64::INFINITY);
-    let runs = if n == 1 { RUNS / 50 } else { RUNS };
-    for _ in 0..runs {
+    for _ in 0..runs(n, &mut rattle) {
         a = a.min(timed(n, &mut rattle));
         b = b.min(timed(m, &mut rust));
     }
     let ratio = a / b;
     println!("{name:<12} {bytes:>9} {a:>12.1} {b:>12.1} {ratio:>8.2}");
+}
+
+/// A book by chance.
+fn any_book(size: Size) -> Vec<u8> {
+    let key = vec![0; size.key_bytes()];
+    let mut out = vec![0; size.book_bytes()];
+    book::build(&key, &any_chain(size), &mut out).unwrap();
+    out
+}
+
+/// A chain by chance.
+fn any_chain(size: Size) -> Vec<u8> {
+    let mut seed = 1u64;
+    chain::random(size, |n| {
+        seed = seed.wrapping_mul(6_364_136_223_846_793_005).wrapping_add(1);
+        (seed >> 33) as usize % n
+    })
+}
+
+/// A message of n bytes by chance.
+fn any_text(n: usize) -> Vec<u8> {
+    (0..n as u32)
+        .map(|i| (i.wrapping_mul(2_654_435_761) >> 24) as u8)
+        .collect()
 }
 
 /// Enciphering and deciphering from key and block, and a whole schedule: neither version knows which
@@ -72,9 +105,7 @@ fn cipher(size: Size) {
 fn mac_chain(size: Size) {
     let key: Vec<u8> = (0..size.key_bytes() as u8).map(|i| 7 * i).collect();
     let key = key.as_slice();
-    let text: Vec<u8> = (0..65_536u32)
-        .map(|i| (i.wrapping_mul(2_654_435_761) >> 24) as u8)
-        .collect();
+    let text = any_text(65_536);
     let text = text.as_slice();
     let mut out = [0; 16];
     measure(
@@ -95,11 +126,7 @@ fn mac_chain(size: Size) {
 fn book(size: Size) {
     let key: Vec<u8> = (0..size.key_bytes() as u8).map(|i| 7 * i).collect();
     let key = key.as_slice();
-    let mut seed = 1u64;
-    let chain = chain::random(size, |n| {
-        seed = seed.wrapping_mul(6_364_136_223_846_793_005).wrapping_add(1);
-        (seed >> 33) as usize % n
-    });
+    let chain = any_chain(size);
     let chain = chain.as_slice();
     let (mut out, mut other) = (vec![0; size.book_bytes()], vec![0; size.book_bytes()]);
     measure(
@@ -122,9 +149,7 @@ fn codes(n: usize) {
     let u: Vec<u8> = (0..chain::SET)
         .map(|i| (i * 7 + i / 16) as u8 % 16)
         .collect();
-    let message: Vec<u8> = (0..n as u32)
-        .map(|i| (i.wrapping_mul(2_654_435_761) >> 24) as u8)
-        .collect();
+    let message = any_text(n);
     let (u, message) = (u.as_slice(), message.as_slice());
     let (mut out, mut other) = (vec![0; n + 16], vec![0; n + 16]);
     let (mut length, mut kind) = (0, 0);
@@ -165,22 +190,23 @@ fn codes(n: usize) {
     assert_eq!(out, other);
 }
 
-/// The head of the rows; what the number in front counts.
-fn heading(bytes: &str) {
-    let (rattle, rust, ratio) = ("Rattle", "Rust", "ratio");
+/// The head of rows: what the number in front counts, and what the two times are of.
+fn heading(bytes: &str, [rattle, rust]: [&str; 2]) {
+    let ratio = "ratio";
     println!("{:<12} {bytes:>9} {rattle:>12} {rust:>12} {ratio:>8}", "");
 }
 
 fn main() {
     println!("ns per call, the fastest of many runs of each version");
-    heading("key bytes");
+    heading("key bytes", ["Rattle", "Rust"]);
     for size in Size::ALL {
         cipher(size);
         mac_chain(size);
         book(size);
     }
-    heading("message");
+    heading("message", ["Rattle", "Rust"]);
     for n in [9_412, 1_048_575] {
         codes(n);
     }
+    driver::all();
 }

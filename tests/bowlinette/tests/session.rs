@@ -282,7 +282,7 @@ fn cmac(key: &[u8], message: &[u8]) -> Block {
     let mut text = message.to_vec();
     if !whole {
         text.push(0x80);
-        text.resize(text.len().next_multiple_of(16), 0);
+        text.resize((message.len() / 16 + 1) * 16, 0);
     }
     let subkey = if whole { first } else { double(first) }.to_be_bytes();
     let last = text.len() - 16;
