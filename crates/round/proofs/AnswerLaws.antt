@@ -37,13 +37,13 @@ no-length [] h = refl
 no-length (x ∷ i) h = absurd (omega arith)
 
 module _ (i : List ℕ) where
-  abbrev key : List ℕ
+  abbrev pub key : List ℕ
   key = keyPart (lengthByte i) i
 
-  abbrev tests : KeySize → List (Bool × ℕ)
+  abbrev pub tests : KeySize → List (Bool × ℕ)
   tests z = keyWhole (lengthByte i) key ++ restTests z (chainPart z (behindKey (lengthByte i) i)) (blockPart z (behindKey (lengthByte i) i))
 
-  abbrev lines : KeySize → List ℕ
+  abbrev pub lines : KeySize → List ℕ
   lines z = twoLines z key (chainPart z (behindKey (lengthByte i) i)) (blockPart z (behindKey (lengthByte i) i))
 
   pub printed-length : sizeOfKey (lengthByte i) ≡ Unknown → printed i ≡ refusedText 1
@@ -51,19 +51,20 @@ module _ (i : List ℕ) where
   printed-length e = length-refused (lengthByte i) tests refusedText lines e
 
   module _ (z : KeySize) (e : sizeOfKey (lengthByte i) ≡ Found z) where
-    taken : printed i ≡ first (tests z) refusedText (lines z)
+    -- the other tests decide
+    pub length-known : printed i ≡ first (tests z) refusedText (lines z)
     unfolding printed
-    taken = length-taken (lengthByte i) tests refusedText lines z e
+    length-known = length-taken (lengthByte i) tests refusedText lines z e
 
     pub printed-key : (length key ≡ lengthByte i → ⊥) → printed i ≡ refusedText 1
     printed-key h =
-        taken ∙ first-hit (not (eqb (length key) (lengthByte i))) 1 (restTests z (chainPart z (behindKey (lengthByte i) i)) (blockPart z (behindKey (lengthByte i) i)))
+        length-known ∙ first-hit (not (eqb (length key) (lengthByte i))) 1 (restTests z (chainPart z (behindKey (lengthByte i) i)) (blockPart z (behindKey (lengthByte i) i)))
         refusedText (lines z) (ap not (ne-eqb (length key) (lengthByte i) h))
 
     pub printed-behind : length key ≡ lengthByte i → printed i ≡ printedBehind z key (behindKey (lengthByte i) i)
     unfolding printedBehind printedOn
     printed-behind h =
-        taken ∙ first-pass (not (eqb (length key) (lengthByte i))) 1 (restTests z (chainPart z (behindKey (lengthByte i) i)) (blockPart z (behindKey (lengthByte i) i)))
+        length-known ∙ first-pass (not (eqb (length key) (lengthByte i))) 1 (restTests z (chainPart z (behindKey (lengthByte i) i)) (blockPart z (behindKey (lengthByte i) i)))
         refusedText (lines z) (ap not (eq-eqb (length key) (lengthByte i) h))
 
 -- ---- what is behind the key

@@ -3,3 +3,4 @@ pub mod ReadingLaws
 pub mod RoundLaws
 pub mod AnswerLaws
 pub mod RoundMeaning
+pub mod LaterBytes

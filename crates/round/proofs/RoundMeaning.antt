@@ -1,13 +1,12 @@
 -- What the two lines are: the opened blocks are LEA's first round, and all of LEA, on the input block decoded by set 0, for
--- every key size and every valid chain (document 01, "The model session of demand 3", its paragraph on n rounds). And what is
--- printed does not depend on later bytes.
+-- every key size and every valid chain (document 01, "The model session of demand 3", its paragraph on n rounds).
 -- Assumes nothing.
-use mathlib.Core.Path.{_≡_, refl, sym, ap, ap₂, _∙_}
-use mathlib.Core.List.{List, [], _∷_, _++_}
-use Prim.Native.Nat.{ℕ, suc, _+_, _-_, _≤_, _<_}
+use mathlib.Core.Path.{_≡_, refl, ap₂, _∙_}
+use mathlib.Core.List.{List, [], _++_}
+use Prim.Native.Nat.{ℕ, _≤_, _<_}
 use native.Mathlib.Nat.{le-refl}
 use native.Mathlib.Omega.{arith}
-use lib.ListN.{length, getD, take, drop}
+use lib.ListN.{length, getD, drop}
 use Rattle.cipher.specs.KeySize.{rounds, chainLength, sizeOfKey}
 use Rattle.cipher.specs.Schedule.{schedule}
 use Rattle.cipher.specs.Lea.{firstRounds, encipher}
