@@ -4,3 +4,4 @@ pub mod RoundLaws
 pub mod AnswerLaws
 pub mod RoundMeaning
 pub mod LaterBytes
+pub mod Example
