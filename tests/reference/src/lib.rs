@@ -7,6 +7,7 @@ pub mod driver;
 pub mod lea;
 pub mod pad;
 pub mod refusal;
+pub mod round;
 pub mod size;
 
 pub use size::Size;
