@@ -18,11 +18,17 @@ const STDIN: i32 = 0;
 
 const STDOUT: i32 = 1;
 
-// Room for the longest input: length byte, key and chain of the largest size, block.
-fn room() -> [u8; 30513]
+// The longest input, that of a key of 32 bytes and so 32 rounds: length byte, key, chain, block.
+const LONGEST: usize = 1
+    + 32
+    + 2 * KeySize::SET
+    + (KeySize::SET + KeySize::ROUND_CODINGS) * 32
+    + 16;
+
+fn room() -> [u8; LONGEST]
     ensures { λ r. ⌜ 30513 ≡ length r ⌝ }
 {
-    [0u8; 30513]
+    [0u8; LONGEST]
 }
 
 // How many bytes are to be read, by the first of them: one where it is no length of a key.

@@ -14,10 +14,10 @@ use cipher::size::KeySize;
 use driver::run::run_round;
 
 // Room for the tables of one round.
-fn room() -> [u8; 18432]
+fn room() -> [u8; KeySize::ROUND_TABLES]
     ensures { λ r. ⌜ 18432 ≡ length r ⌝ }
 {
-    [0u8; 18432]
+    [0u8; KeySize::ROUND_TABLES]
 }
 
 // A block by the tables of round l, which are built for it.
@@ -50,7 +50,7 @@ pub fn opened(size: KeySize, chain: &[u8], n: usize, x: [u8; 16]) -> [u8; 16]
     ensures { λ r. ⌜ r ≡ decoded (chainSet (now (chain .entry)) n) x ⌝ }
 {
     let at = KeySize::SET * (n + 1);
-    let mut inverse = [0u8; 512];
+    let mut inverse = [0u8; KeySize::SET];
     invert(&chain[at..], KeySize::SET_CODINGS, &mut inverse);
     code_block(&inverse, x)
 }

@@ -6,9 +6,12 @@ ghost use lib.ListN.{length};
 ghost use Rattle.io.specs.Digits.{glyph};
 ghost use Rattle.round.specs.Text.{hexDigit, hexOf, line, refusedText, shown, reportTold};
 
+// The bytes of two lines, the longest text: 2 and 3 in front of a block, 32 for it, a newline.
+const LONGEST: usize = 2 + 3 + 2 * (32 + 1);
+
 // The text that is printed: the first `length` bytes of `text`; behind them are zeros.
 pub struct Report {
-    pub text: [u8; 71],
+    pub text: [u8; LONGEST],
     pub length: usize,
 }
 
@@ -46,7 +49,7 @@ fn put_hex(b: [u8; 16], out: &mut [u8])
 pub fn two_lines(first: [u8; 16], r: usize, last: [u8; 16]) -> Report
     ensures { λ a. ⌜ reportTold a ≡ shown (line 1 1 first ++ line 2 r last) ⌝ }
 {
-    let mut text = [0u8; 71];
+    let mut text = [0u8; LONGEST];
     text[0] = b'1';
     text[1] = b' ';
     text[34] = b'\n';
@@ -56,14 +59,17 @@ pub fn two_lines(first: [u8; 16], r: usize, last: [u8; 16]) -> Report
     text[70] = b'\n';
     put_hex(last, &mut text[38..70]);
     put_hex(first, &mut text[2..34]);
-    Report { text, length: 71 }
+    Report {
+        text,
+        length: LONGEST,
+    }
 }
 
 // A refusal, by its number, which is below 10 for all that the program refuses.
 pub fn refused(n: u32) -> Report
     ensures { λ a. ⌜ reportTold a ≡ shown (refusedText n) ⌝ }
 {
-    let mut text = [0u8; 71];
+    let mut text = [0u8; LONGEST];
     text[0] = b'r';
     text[1] = b'e';
     text[2] = b'f';
