@@ -15,7 +15,6 @@ use cipher::size::KeySize;
 use cipher::size::SizeFound;
 use driver::session::Session;
 use driver::session::SessionAnswer;
-use pad::code::SealingCode;
 use pad::code::TagCode;
 
 // An answer's block into out, and its number.
@@ -127,11 +126,11 @@ pub extern "C" fn bowlinette_code_for_sealing(
 {
     let code = pad::code::code_for_sealing(u, message, out);
     match code {
-        SealingCode::Length(n) => {
+        Written::Bytes(n) => {
             *length = n as u64;
             0
         }
-        SealingCode::Refused(why) => why.number(),
+        Written::Refused(why) => why.number(),
     }
 }
 

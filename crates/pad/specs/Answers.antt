@@ -12,16 +12,10 @@ use Rattle.cipher.specs.Refusal.{numberOf}
 use Rattle.cipher.specs.Coding.{setOf}
 use Rattle.cipher.specs.Chain.{setTests}
 use Rattle.pad.specs.Padding.{paddedForSealing, paddedForTag, kindOf, codedText}
-use Rattle.pad.specs.declared.code.SealingCode.{SealingCode}
-use Rattle.pad.specs.declared.code.SealingCode.the-variants as S
 use Rattle.pad.specs.declared.code.TagCode.{TagCode}
 use Rattle.pad.specs.declared.code.TagCode.the-variants as T
 
 -- an answer as a number, 0 where the message was coded, and what is told of the code, zeros where there is none
-abbrev pub sealingTold : SealingCode → ℕ × ℕ
-sealingTold (S.Length n) = (0, n)
-sealingTold (S.Refused q) = (numberOf q, 0)
-
 abbrev pub tagTold : TagCode → ℕ × (ℕ × ℕ)
 tagTold (T.Coded n k) = (0, (n, k))
 tagTold (T.Refused q) = (numberOf q, (0, 0))

@@ -4,19 +4,14 @@
 ghost use mathlib.Core.Path.{_≡_};
 ghost use Prim.Native.Nat.{_+_, _≤_, _<_};
 ghost use Rattle.lists.specs.Refusals.{first};
-ghost use Rattle.cipher.specs.Refusal.{outcomeOf};
+ghost use Rattle.cipher.specs.Refusal.{outcomeOf, writtenOf};
 ghost use Rattle.pad.specs.Padding.{kindOf, tagAdded};
-ghost use Rattle.pad.specs.Answers.{codingTests, sealingTold, tagTold, sealingAnswer, tagAnswer};
+ghost use Rattle.pad.specs.Answers.{codingTests, tagTold, sealingAnswer, tagAnswer};
 use crate::text::code_text;
 use cipher::chain::check_set;
 use cipher::refusal::Outcome;
 use cipher::refusal::Refusal;
-
-// What coding for sealing answers: how many bytes were written, or why none.
-pub enum SealingCode {
-    Length(usize),
-    Refused(Refusal),
-}
+use cipher::refusal::Written;
 
 // What coding for a tag answers: how many bytes were written and their kind (01's term), or why
 // none.
@@ -76,17 +71,17 @@ fn tag_added(n: usize, kind: u8) -> usize
 }
 
 // A message padded by PKCS#7 and coded by the set u, into the front of out.
-pub fn code_for_sealing(u: &[u8], message: &[u8], out: &mut [u8]) -> SealingCode
-    ensures { λ r. ⌜ (sealingTold r, now (out .exit)) ≡ sealingAnswer (now (u .entry)) (now (message .entry)) (now (out .entry)) ⌝ }
+pub fn code_for_sealing(u: &[u8], message: &[u8], out: &mut [u8]) -> Written
+    ensures { λ r. ⌜ (writtenOf r, now (out .exit)) ≡ sealingAnswer (now (u .entry)) (now (message .entry)) (now (out .entry)) ⌝ }
 {
     let n = message.len();
     let added = BLOCK - n % BLOCK;
     if let Outcome::Refused(why) = admit(u, n, added, out.len()) {
-        return SealingCode::Refused(why);
+        return Written::Refused(why);
     }
     let tail = [narrow(added); 16];
     code_text(u, message, &tail[0..added], out);
-    SealingCode::Length(n + added)
+    Written::Bytes(n + added)
 }
 
 // A message padded for a tag and coded by the set u, into the front of out.
