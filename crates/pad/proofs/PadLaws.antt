@@ -12,6 +12,7 @@ use lib.Dec.{eqb, lit<}
 use lib.ListN.{length, getD, take, replicate, length-append, length-replicate, getD-replicate}
 use lib.Seq.{length-take-le, take-at, getD-append-add}
 use Rattle.lists.specs.Blocks.{Bytes}
+use Rattle.lists.proofs.BlockLaws.{bytes-append}
 use Rattle.pad.specs.Padding.{sealingAdded, paddedForSealing, lastByte, SealingPadded, stripped, fillsBlocks, kindOf, tagAdded, paddedForTag}
 
 -- ---- bytes
