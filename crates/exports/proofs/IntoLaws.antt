@@ -8,7 +8,7 @@ use Rattle.cipher.specs.Refusal.{numberOf}
 use Rattle.cipher.proofs.AnswerLaws.{number-more}
 use Rattle.cipher.specs.declared.refusal.Refusal.{Refusal}
 use Rattle.driver.specs.declared.session.Session.{Session}
-use Rattle.exports.specs.Into.{into, kept}
+use Rattle.exports.specs.Into.{into, told, kept}
 use Rattle.exports.specs.Session.{Parts, flagOf, intoParts, tagIntoParts}
 
 -- number n of an answer whose outcome is o
@@ -73,3 +73,11 @@ module _ (o n : ℕ) (t : List ℕ) (s : Session) (old : List ℕ × Parts) (e :
       go : (k : ℕ) → (k ≡ 0 → ⊥) → (k, old) ≡ tagIntoParts ((k, t), s) old
       go zero f = absurd (f refl)
       go (suc k) f = refl
+
+-- number n of an answer a that is refused with q and tells nothing
+pub told-refused : (a : ℕ × ℕ) (q : Refusal) (n old : ℕ) → (numberOf q, 0) ≡ a → n ≡ numberOf q → (n, old) ≡ told a old
+told-refused a q n old e h = ap (λ (k : ℕ). (k, old)) h ∙ go (numberOf q) (number-more q) ∙ ap (λ (b : ℕ × ℕ). told b old) e
+  where
+    go : (k : ℕ) → 0 < k → (k, old) ≡ told (k, 0) old
+    go zero l = absurd (omega arith)
+    go (suc k) l = refl

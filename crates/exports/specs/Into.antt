@@ -12,3 +12,8 @@ into (suc n, value) old = (suc n, old)
 abbrev pub kept : {A : Type 0} → (ℕ × A) × List ℕ → A → (ℕ × A) × List ℕ
 kept ((zero, told), out) old = ((zero, told), out)
 kept ((suc n, told), out) old = ((suc n, old), out)
+
+-- and of an answer that tells a number only
+abbrev pub told : ℕ × ℕ → ℕ → ℕ × ℕ
+told (zero, value) old = (zero, value)
+told (suc n, value) old = (suc n, old)

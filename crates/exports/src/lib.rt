@@ -3,11 +3,13 @@
 ghost use mathlib.Core.Path.{_≡_};
 ghost use Rattle.exports.specs.Chain.{chainAnswer};
 ghost use Rattle.cipher.specs.Answers.{blockTold, encipherAnswer, decipherAnswer, roundsAnswer, rowAnswer, setChecked, chainChecked};
-ghost use Rattle.exports.specs.Into.{into, kept};
+ghost use Rattle.exports.specs.Into.{into, told, kept};
 ghost use Rattle.book.specs.Answers.{buildAnswer, roundAnswer};
 ghost use Rattle.pad.specs.Answers.{sealingAnswer, tagAnswer};
 ghost use Rattle.driver.specs.Driver as D;
+ghost use Rattle.archive.specs.Archive as R;
 ghost use Rattle.exports.specs.Session.{sessionOf, flagOf, intoParts, tagIntoParts};
+use archive::check::Checked;
 use cipher::lea::BlockAnswer;
 use cipher::refusal::Refusal;
 use cipher::refusal::Written;
@@ -294,6 +296,54 @@ pub extern "C" fn bowlinette_last_call(
         *finished = flag(after.finished);
     }
     n
+}
+
+// A sealed file opened under a key with its set r and its IV: the message into the front of out,
+// and its length into length.
+#[no_mangle]
+pub extern "C" fn bowlinette_open(
+    key: &[u8],
+    set: &[u8],
+    iv: &[u8],
+    sealed: &[u8],
+    out: &mut [u8],
+    length: &mut u64,
+) -> u32
+    ensures { λ r. ⌜ ((r, now (length .exit)), now (out .exit)) ≡ kept (R.openAnswer (now (key .entry)) (now (set .entry)) (now (iv .entry)) (now (sealed .entry)) (now (out .entry))) (now (length .entry)) ⌝ }
+{
+    let written = archive::open::open(key, set, iv, sealed, out);
+    match written {
+        Written::Bytes(n) => {
+            *length = n as u64;
+            0
+        }
+        Written::Refused(why) => why.number(),
+    }
+}
+
+// Whether a tag, coded by set r, is that of a message under a key: 1 for Valid, 0 for Invalid, into
+// valid.
+#[no_mangle]
+pub extern "C" fn bowlinette_check(
+    key: &[u8],
+    set: &[u8],
+    message: &[u8],
+    tag: &[u8],
+    valid: &mut u8,
+) -> u32
+    ensures { λ r. ⌜ (r, now (valid .exit)) ≡ told (R.checkAnswer (now (key .entry)) (now (set .entry)) (now (message .entry)) (now (tag .entry))) (now (valid .entry)) ⌝ }
+{
+    match archive::check::check(key, set, message, tag) {
+        Checked::Valid => {
+            *valid = 1;
+            0
+        }
+        Checked::Invalid => {
+            *valid = 0;
+            0
+        }
+        Checked::Refused(why) => why.number(),
+    }
 }
 
 // For the benchmark: the chaining value of CMAC after the whole blocks of a text, into out.
