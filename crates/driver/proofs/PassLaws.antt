@@ -52,6 +52,9 @@ unfolding tableRounds tableRound
 block-rounds t zero b h = h
 block-rounds t (suc n) b h = block-halves _ (after-lt (t n) (tableRounds t n b))
 
+pub rounds-block : (bk x y : List ℕ) (l : ℕ) → Block x → y ≡ tableRounds (roundAt bk) l x → Block y
+rounds-block bk x y l h e = rw e (block-rounds (roundAt bk) l x h)
+
 pub block-fold : (t x m : List ℕ) → Block (tableFold t x m)
 unfolding tableFold
 block-fold t x m = block-halves _ (fold-lt t x m)

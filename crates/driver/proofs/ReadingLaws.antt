@@ -72,4 +72,4 @@ module _ (s : List ℕ) (m u v w : ℕ) where
 
 unfoldable pub four : List ℕ → ℕ → ℕ → ℕ → ℕ → ℕ → List ℕ
 unfolding three
-four s m u v w z = set (three s m u v w) (m + 12) z
+four s m u v w z = three (set s (m + 12) z) m u v w

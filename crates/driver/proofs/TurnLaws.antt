@@ -3,7 +3,7 @@
 -- Assumes nothing.
 use mathlib.Core.Path.{_≡_, refl, sym, ap, _∙_}
 use mathlib.Core.List.{List}
-use Prim.Native.Nat.{ℕ, zero, suc, _+_, _*_, _/_, _%_, _<_}
+use Prim.Native.Nat.{ℕ, zero, suc, _+_, _*_, _/_, _%_, _≤_, _<_}
 use native.Mathlib.Nat.{not-suc-le-zero}
 use native.Mathlib.Omega.{arith}
 use borrow.Author.Count.{below-more}
@@ -18,45 +18,56 @@ use Rattle.driver.specs.Reading.{sumBytes, turnHalf, turnByte}
 use Rattle.driver.proofs.ReadingLaws.{half-lo, half-hi, set-far, three, three-length, three-far, three-0, three-1, three-2, four}
 use Rattle.driver.proofs.SumLaws.{half-sum}
 
--- the first m bytes of each new word are made from the sums s and the block x
+-- the first m bytes of each new word are made from the sums s and the block x; of word 0 the others still are those of x
 pub record TurnsAre (t s x : List ℕ) (m : ℕ) (y : List ℕ) : Type 0 where
   pub len : length y ≡ 16
   pub at0 : (k : ℕ) → k < m → getD y k 0 ≡ turnByte t s 0 k 6 5
   pub at1 : (k : ℕ) → k < m → getD y (k + 4) 0 ≡ turnByte t s 1 k 2 1
   pub at2 : (k : ℕ) → k < m → getD y (k + 8) 0 ≡ turnByte t s 2 k 1 0
   pub at3 : (k : ℕ) → k < m → getD y (k + 12) 0 ≡ getD x k 0
+  pub old : (k : ℕ) → m ≤ k → k < 4 → getD y k 0 ≡ getD x k 0
 
-pub turns-first : (t s x y : List ℕ) → length y ≡ 16 → TurnsAre t s x 0 y
-turns-first t s x y h = record {
+pub turns-first : (t s x : List ℕ) → length x ≡ 16 → TurnsAre t s x 0 x
+turns-first t s x h = record {
   len = h;
   at0 = λ k l. absurd (not-suc-le-zero l);
   at1 = λ k l. absurd (not-suc-le-zero l);
   at2 = λ k l. absurd (not-suc-le-zero l);
   at3 = λ k l. absurd (not-suc-le-zero l);
+  old = λ k l h. refl;
 }
 
-pub turns-step : (t s x y : List ℕ) (m u v w z : ℕ) → m < 4 → TurnsAre t s x m y
-    → u ≡ turnByte t s 0 m 6 5 → v ≡ turnByte t s 1 m 2 1 → w ≡ turnByte t s 2 m 1 0 → z ≡ getD x m 0
-    → TurnsAre t s x (m + 1) (four y m u v w z)
+pub turns-step : (t s x y : List ℕ) (m u v w : ℕ) → m < 4 → TurnsAre t s x m y
+    → u ≡ turnByte t s 0 m 6 5 → v ≡ turnByte t s 1 m 2 1 → w ≡ turnByte t s 2 m 1 0
+    → TurnsAre t s x (m + 1) (four y m u v w (getD y m 0))
 unfolding four
-turns-step t s x y m u v w z hm r eu ev ew ez = record {
-  len = length-set (three y m u v w) (m + 12) z ∙ three-length y m u v w ∙ r .len;
-  at0 = below-more (λ k. getD (set (three y m u v w) (m + 12) z) k 0 ≡ turnByte t s 0 k 6 5) m
-      (λ k h. far k (λ e. omega arith) ∙ three-far y m u v w k (λ e. omega arith) (λ e. omega arith) (λ e. omega arith) ∙ r .at0 k h)
-      (far m (λ e. omega arith) ∙ three-0 y m u v w (omega (arith, r .len)) ∙ eu);
-  at1 = below-more (λ k. getD (set (three y m u v w) (m + 12) z) (k + 4) 0 ≡ turnByte t s 1 k 2 1) m
-      (λ k h. far (k + 4) (λ e. omega arith) ∙ three-far y m u v w (k + 4) (λ e. omega arith) (λ e. omega arith) (λ e. omega arith) ∙ r .at1 k h)
-      (far (m + 4) (λ e. omega arith) ∙ three-1 y m u v w (omega (arith, r .len)) ∙ ev);
-  at2 = below-more (λ k. getD (set (three y m u v w) (m + 12) z) (k + 8) 0 ≡ turnByte t s 2 k 1 0) m
-      (λ k h. far (k + 8) (λ e. omega arith) ∙ three-far y m u v w (k + 8) (λ e. omega arith) (λ e. omega arith) (λ e. omega arith) ∙ r .at2 k h)
-      (far (m + 8) (λ e. omega arith) ∙ three-2 y m u v w (omega (arith, r .len)) ∙ ew);
-  at3 = below-more (λ k. getD (set (three y m u v w) (m + 12) z) (k + 12) 0 ≡ getD x k 0) m
-      (λ k h. far (k + 12) (λ e. omega arith) ∙ three-far y m u v w (k + 12) (λ e. omega arith) (λ e. omega arith) (λ e. omega arith) ∙ r .at3 k h)
-      (getD-set-same (three y m u v w) (m + 12) z 0 (omega (arith, three-length y m u v w, r .len)) ∙ ez);
+turns-step t s x y m u v w hm r eu ev ew = record {
+  len = three-length z m u v w ∙ zl;
+  at0 = below-more (λ k. getD (three z m u v w) k 0 ≡ turnByte t s 0 k 6 5) m
+      (λ k h. far k (λ e. omega arith) (λ e. omega arith) (λ e. omega arith) (λ e. omega arith) ∙ r .at0 k h)
+      (three-0 z m u v w (omega (arith, zl)) ∙ eu);
+  at1 = below-more (λ k. getD (three z m u v w) (k + 4) 0 ≡ turnByte t s 1 k 2 1) m
+      (λ k h. far (k + 4) (λ e. omega arith) (λ e. omega arith) (λ e. omega arith) (λ e. omega arith) ∙ r .at1 k h)
+      (three-1 z m u v w (omega (arith, zl)) ∙ ev);
+  at2 = below-more (λ k. getD (three z m u v w) (k + 8) 0 ≡ turnByte t s 2 k 1 0) m
+      (λ k h. far (k + 8) (λ e. omega arith) (λ e. omega arith) (λ e. omega arith) (λ e. omega arith) ∙ r .at2 k h)
+      (three-2 z m u v w (omega (arith, zl)) ∙ ew);
+  at3 = below-more (λ k. getD (three z m u v w) (k + 12) 0 ≡ getD x k 0) m
+      (λ k h. far (k + 12) (λ e. omega arith) (λ e. omega arith) (λ e. omega arith) (λ e. omega arith) ∙ r .at3 k h)
+      (three-far z m u v w (m + 12) (λ e. omega arith) (λ e. omega arith) (λ e. omega arith)
+      ∙ getD-set-same y (m + 12) (getD y m 0) 0 (omega (arith, r .len))
+      ∙ r .old m (omega arith) hm);
+  old = λ k l h. far k (λ e. omega arith) (λ e. omega arith) (λ e. omega arith) (λ e. omega arith) ∙ r .old k (omega arith) h;
 }
   where
-    far : (k : ℕ) → (k ≡ m + 12 → ⊥) → getD (set (three y m u v w) (m + 12) z) k 0 ≡ getD (three y m u v w) k 0
-    far k h = set-far (three y m u v w) (m + 12) k z h
+    z : List ℕ
+    z = set y (m + 12) (getD y m 0)
+
+    zl : length z ≡ 16
+    zl = length-set y (m + 12) (getD y m 0) ∙ r .len
+
+    far : (k : ℕ) → (k ≡ m → ⊥) → (k ≡ m + 4 → ⊥) → (k ≡ m + 8 → ⊥) → (k ≡ m + 12 → ⊥) → getD (three z m u v w) k 0 ≡ getD y k 0
+    far k a b c d = three-far z m u v w k a b c ∙ set-far y (m + 12) k (getD y m 0) d
 
 -- ---- the round
 

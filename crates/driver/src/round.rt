@@ -2,6 +2,7 @@
 ghost use mathlib.Core.Path.{_≡_};
 ghost use Prim.Native.Nat.{_+_, _*_, _≤_};
 ghost use lib.ListN.{length};
+ghost use Rattle.lists.specs.Blocks.{Block};
 ghost use Rattle.cipher.specs.Tables.{tableRound, tableRounds};
 ghost use Rattle.cipher.specs.Book.{roundAt};
 use crate::sums::sums;
@@ -11,12 +12,13 @@ use cipher::size::KeySize;
 // Where the rounds of a book begin.
 const ROUNDS: usize = KeySize::START + 3 * KeySize::GROUP;
 
-// A round by the tables at the front of t.
-pub fn round(t: &[u8], x: [u8; 16]) -> [u8; 16]
-    requires { ⌜ 18432 ≤ length (now t) ⌝ }
-    ensures { λ r. ⌜ r ≡ tableRound (now (t .entry)) x ⌝ }
+// The lent block taken through a round by the tables at the front of t.
+pub fn step(t: &[u8], y: &mut [u8; 16])
+    requires { ⌜ (18432 ≤ length (now t)) × Block (now y) ⌝ }
+    ensures { λ _. ⌜ now (y .exit) ≡ tableRound (now (t .entry)) (now (y .entry)) ⌝ }
 {
-    turns(t, sums(t, x), x)
+    let s = sums(t, *y);
+    turns(t, &s, y);
 }
 
 // The rounds 0 to n - 1 of a book.
@@ -27,8 +29,7 @@ pub fn rounds(book: &[u8], n: usize, x: [u8; 16]) -> [u8; 16]
     let mut y = x;
     for l in 0..n {
         let at = ROUNDS + KeySize::ROUND_TABLES * l;
-        let z = round(&book[at..], y);
-        y = z;
+        step(&book[at..], &mut y);
     }
     y
 }

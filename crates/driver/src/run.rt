@@ -3,8 +3,8 @@
 ghost use mathlib.Core.Path.{_≡_};
 ghost use Rattle.cipher.specs.Answers.{blockTold};
 ghost use Rattle.driver.specs.Driver.{roundAnswer, roundsAnswer};
-use crate::round::round;
 use crate::round::rounds;
+use crate::round::step;
 use cipher::block::block_at;
 use cipher::lea::BlockAnswer;
 use cipher::lea::refused;
@@ -32,7 +32,9 @@ pub fn run_round(tables: &[u8], block: &[u8]) -> BlockAnswer
     if block.len() != 16 {
         return refused(Refusal::BlockLength);
     }
-    done(round(tables, block_at(block, 0)))
+    let mut y = block_at(block, 0);
+    step(tables, &mut y);
+    done(y)
 }
 
 // A block by the first n rounds of a book, all of them where n is more.

@@ -2,6 +2,7 @@
 ghost use mathlib.Core.Path.{_≡_};
 ghost use Prim.Native.Nat.{_%_, _≤_, _<_};
 ghost use lib.ListN.{length};
+ghost use Rattle.lists.specs.Blocks.{Block};
 ghost use Rattle.cipher.specs.Coding.{blockHalf};
 ghost use Rattle.cipher.specs.Tables.{tableRound};
 ghost use Rattle.driver.specs.Reading.{turnByte, sumBytes};
@@ -42,17 +43,16 @@ fn turn_two(t: &[u8], s: &[u8; 12], i: usize, m: usize, u: usize, v: usize) -> u
     joined(lo, hi)
 }
 
-// The block behind the round: three words turned from the sums, and the old word 0.
-pub fn turns(t: &[u8], s: [u8; 12], x: [u8; 16]) -> [u8; 16]
-    requires { ⌜ (18432 ≤ length (now t)) × (s ≡ sumBytes (now t) x) ⌝ }
-    ensures { λ r. ⌜ r ≡ tableRound (now (t .entry)) x ⌝ }
+// The lent block taken through the round: word 3 is the old word 0, the others are turned from the
+// sums.
+pub fn turns(t: &[u8], s: &[u8; 12], y: &mut [u8; 16])
+    requires { ⌜ (18432 ≤ length (now t)) × Block (now y) × (now s ≡ sumBytes (now t) (now y)) ⌝ }
+    ensures { λ _. ⌜ now (y .exit) ≡ tableRound (now (t .entry)) (now (y .entry)) ⌝ }
 {
-    let mut y = [0u8; 16];
     for m in 0..4 {
-        y[m] = turn_two(t, &s, 0, m, 6, 5);
-        y[m + 4] = turn_two(t, &s, 1, m, 2, 1);
-        y[m + 8] = turn_two(t, &s, 2, m, 1, 0);
-        y[m + 12] = x[m];
+        y[m + 12] = y[m];
+        y[m] = turn_two(t, s, 0, m, 6, 5);
+        y[m + 4] = turn_two(t, s, 1, m, 2, 1);
+        y[m + 8] = turn_two(t, s, 2, m, 1, 0);
     }
-    y
 }

@@ -5,7 +5,8 @@ use native.Mathlib.Omega.{arith}
 use borrow.Author.Needs.{needs}
 use Rattle.cipher.specs.Tables.{tableRounds}
 use Rattle.cipher.specs.Book.{roundAt}
-use Rattle.driver.proofs.PassLaws.{rounds-turn}
+use Rattle.driver.proofs.Typed.{array-block}
+use Rattle.driver.proofs.PassLaws.{rounds-turn, rounds-block}
 use Rattle.driver.proofs.round.rounds.Statement.{statement}
 use Rattle.driver.proofs.round.rounds.Tie as tie
 
@@ -19,10 +20,15 @@ loop-holds : tie.Need-loop-holds Inv-loop μ-loop
 unfolding tableRounds
 loop-holds c = (omega arith, refl)
 
+step-requires : tie.Need-step-requires Inv-loop μ-loop
+step-requires c κs =
+    let h = c .before .before .before in
+    (omega arith, rounds-block _ _ _ _ (array-block _ _ (h .before .before .good .1 .1 .0)) (h .loop .inv .1))
+
 loop-again : tie.Need-loop-again Inv-loop μ-loop
 loop-again c =
-    let h = c .before .before .before in
-    (omega arith, rounds-turn _ _ _ _ _ (h .loop .inv .1) (c .round .ensures))
+    let h = c .before .before .before .before in
+    (omega arith, rounds-turn _ _ _ _ _ (h .loop .inv .1) (c .step .ensures))
 
 returns : tie.Need-returns Inv-loop μ-loop
 returns c =
@@ -31,4 +37,4 @@ returns c =
     h .loop .inv .1 ∙ ap (λ (k : ℕ). tableRounds (roundAt (h .before .before .args .book .now)) k (h .before .before .args .x)) e
 
 pub rounds-spec : {M : Type 1} → statement M
-rounds-spec = tie.close (tie.spec Inv-loop μ-loop loop-holds (λ c. search needs) (λ c. search needs) (λ c. search needs) (λ c. search needs) (λ c. search needs) (λ c κs. search needs) (λ c. search needs) (λ c. search needs) loop-again returns)
+rounds-spec = tie.close (tie.spec Inv-loop μ-loop loop-holds (λ c. search needs) (λ c. search needs) (λ c. search needs) (λ c. search needs) (λ c. search needs) step-requires (λ c. search needs) (λ c. search needs) loop-again returns)
