@@ -74,6 +74,14 @@ module _ (o n : ℕ) (t : List ℕ) (s : Session) (old : List ℕ × Parts) (e :
       go zero f = absurd (f refl)
       go (suc k) f = refl
 
+-- the number r and the length l that were delivered of what is told in t, beside the buffer x
+pub kept-told : (answer : (ℕ × ℕ) × List ℕ) (t : ℕ × ℕ) (x : List ℕ) (r l old : ℕ) → (r, l) ≡ told t old → (t, x) ≡ answer → ((r, l), x) ≡ kept answer old
+kept-told answer t x r l old e h = ap (λ (y : ℕ × ℕ). (y, x)) e ∙ go t ∙ ap (λ (a : (ℕ × ℕ) × List ℕ). kept a old) h
+  where
+    go : (t : ℕ × ℕ) → (told t old, x) ≡ kept (t, x) old
+    go (zero, v) = refl
+    go (suc n, v) = refl
+
 -- number n of an answer a that is refused with q and tells nothing
 pub told-refused : (a : ℕ × ℕ) (q : Refusal) (n old : ℕ) → (numberOf q, 0) ≡ a → n ≡ numberOf q → (n, old) ≡ told a old
 told-refused a q n old e h = ap (λ (k : ℕ). (k, old)) h ∙ go (numberOf q) (number-more q) ∙ ap (λ (b : ℕ × ℕ). told b old) e

@@ -3,6 +3,7 @@
 ghost use mathlib.Core.Path.{_≡_};
 ghost use Rattle.exports.specs.Chain.{chainAnswer};
 ghost use Rattle.cipher.specs.Answers.{blockTold, encipherAnswer, decipherAnswer, roundsAnswer, rowAnswer, setChecked, chainChecked};
+ghost use Rattle.cipher.specs.Refusal.{writtenOf};
 ghost use Rattle.exports.specs.Into.{into, told, kept};
 ghost use Rattle.book.specs.Answers.{buildAnswer, roundAnswer};
 ghost use Rattle.pad.specs.Answers.{sealingAnswer, tagAnswer};
@@ -30,6 +31,19 @@ fn deliver(a: BlockAnswer, out: &mut [u8; 16]) -> u32
         *out = b;
     }
     n
+}
+
+// How many bytes were written into length, and the number.
+fn deliver_length(w: Written, length: &mut u64) -> u32
+    ensures { λ r. ⌜ (r, now (length .exit)) ≡ told (writtenOf w) (now (length .entry)) ⌝ }
+{
+    match w {
+        Written::Bytes(n) => {
+            *length = n as u64;
+            0
+        }
+        Written::Refused(why) => why.number(),
+    }
 }
 
 // A block enciphered under a key, into out.
@@ -126,14 +140,7 @@ pub extern "C" fn bowlinette_code_for_sealing(
 ) -> u32
     ensures { λ r. ⌜ ((r, now (length .exit)), now (out .exit)) ≡ kept (sealingAnswer (now (u .entry)) (now (message .entry)) (now (out .entry))) (now (length .entry)) ⌝ }
 {
-    let code = pad::code::code_for_sealing(u, message, out);
-    match code {
-        Written::Bytes(n) => {
-            *length = n as u64;
-            0
-        }
-        Written::Refused(why) => why.number(),
-    }
+    deliver_length(pad::code::code_for_sealing(u, message, out), length)
 }
 
 // A message coded for a tag by the set u, into the front of out, the length of that into length,
@@ -192,14 +199,7 @@ pub extern "C" fn bowlinette_seal(
 ) -> u32
     ensures { λ r. ⌜ ((r, now (length .exit)), now (out .exit)) ≡ kept (D.sealAnswer (now (book .entry)) (now (iv .entry)) (now (coded .entry)) (now (out .entry))) (now (length .entry)) ⌝ }
 {
-    let written = driver::seal::seal(book, iv, coded, out);
-    match written {
-        Written::Bytes(n) => {
-            *length = n as u64;
-            0
-        }
-        Written::Refused(why) => why.number(),
-    }
+    deliver_length(driver::seal::seal(book, iv, coded, out), length)
 }
 
 // Whether a session is finished, as a flag.
@@ -311,14 +311,7 @@ pub extern "C" fn bowlinette_open(
 ) -> u32
     ensures { λ r. ⌜ ((r, now (length .exit)), now (out .exit)) ≡ kept (R.openAnswer (now (key .entry)) (now (set .entry)) (now (iv .entry)) (now (sealed .entry)) (now (out .entry))) (now (length .entry)) ⌝ }
 {
-    let written = archive::open::open(key, set, iv, sealed, out);
-    match written {
-        Written::Bytes(n) => {
-            *length = n as u64;
-            0
-        }
-        Written::Refused(why) => why.number(),
-    }
+    deliver_length(archive::open::open(key, set, iv, sealed, out), length)
 }
 
 // Whether a tag, coded by set r, is that of a message under a key: 1 for Valid, 0 for Invalid, into
