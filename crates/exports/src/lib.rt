@@ -25,12 +25,12 @@ fn deliver(a: BlockAnswer, out: &mut [u8; 16]) -> u32
     ensures { λ r. ⌜ (r, now (out .exit)) ≡ into (blockTold a) (now (out .entry)) ⌝ }
 {
     let outcome = a.outcome;
-    let n = outcome.number();
-    if n == 0 {
+    let refusal = outcome.number();
+    if refusal == 0 {
         let b = a.block;
         *out = b;
     }
-    n
+    refusal
 }
 
 // How many bytes were written into length, and the number.
