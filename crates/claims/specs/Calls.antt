@@ -1,0 +1,66 @@
+-- Lists of calls (document 01, "The model session of demand 3"): on the driver's session, on the model, and the list that a
+-- message makes.
+-- Assumes nothing.
+use mathlib.Core.List.{List, [], _∷_}
+use Prim.Native.Nat.{ℕ, zero, suc}
+use lib.ListN.{length}
+use Rattle.lists.specs.Blocks.{blocks}
+use Rattle.cipher.specs.Coding.{Set}
+use Rattle.pad.specs.Padding.{paddedForTag, kindOf, codedText}
+use Rattle.driver.specs.Driver.{beginAnswer, blockAnswer, lastAnswer}
+use Rattle.driver.specs.declared.session.Session.{Session}
+use Rattle.claims.specs.Model.{Call, blockCall, lastCall, Answer, accepted, tag, refused, begun, modelCall}
+
+-- the driver's number as an answer: 0 says that the call was taken
+unfoldable pub answerOf : ℕ → Answer → Answer
+answerOf zero a = a
+answerOf (suc q) a = refused (suc q)
+
+abbrev pub blockTold : ℕ × Session → Answer × Session
+blockTold r = (answerOf (r .0) accepted, r .1)
+
+abbrev pub lastTold : (ℕ × List ℕ) × Session → Answer × Session
+lastTold r = (answerOf (r .0 .0) (tag (r .0 .1)), r .1)
+
+-- a call on the driver's session, by the book
+unfoldable pub driverCall : List ℕ → Call → Session → Answer × Session
+driverCall bk (blockCall m) s = blockTold (blockAnswer bk m s)
+driverCall bk (lastCall m k) s = lastTold (lastAnswer bk m k s)
+
+-- "The first gets a session just begun .., each later one the session that the call before it returned or left": the answers to a
+-- list of calls, in their order
+unfoldable pub run : {S : Type 0} → (Call → S → Answer × S) → List Call → S → List Answer
+run f [] s = []
+run f (c ∷ cs) s = (f c s) .0 ∷ run f cs ((f c s) .1)
+
+-- "a session just begun with the book, .., and all get that book"
+unfoldable pub driverAnswers : List ℕ → List Call → List Answer
+driverAnswers bk cs = run (driverCall bk) cs ((beginAnswer bk) .1)
+
+-- the model's answers
+unfoldable pub modelAnswers : (List ℕ → List ℕ) → Set → Set → List Call → List Answer
+modelAnswers cipher U S cs = run (modelCall cipher U S) cs begun
+
+-- "All but the last block go in block calls, the last one and the kind in the last call"
+unfoldable pub callsOf : ℕ → List (List ℕ) → List Call
+callsOf k [] = []
+callsOf k (b ∷ []) = lastCall b k ∷ []
+callsOf k (b ∷ c ∷ bs) = blockCall b ∷ callsOf k (c ∷ bs)
+
+-- "A message's coded blocks and kind are those of the pad's coding for a tag under U"
+unfoldable pub messageCalls : Set → List ℕ → List Call
+messageCalls U m = callsOf (kindOf (length m)) (blocks (codedText U (paddedForTag m)))
+
+-- the calls that were accepted, by their answers; and the tags among the answers
+unfoldable pub acceptedCalls : List Call → List Answer → List Call
+acceptedCalls [] rs = []
+acceptedCalls (c ∷ cs) [] = []
+acceptedCalls (c ∷ cs) (accepted ∷ rs) = c ∷ acceptedCalls cs rs
+acceptedCalls (c ∷ cs) (tag t ∷ rs) = c ∷ acceptedCalls cs rs
+acceptedCalls (c ∷ cs) (refused q ∷ rs) = acceptedCalls cs rs
+
+unfoldable pub tagsOf : List Answer → List (List ℕ)
+tagsOf [] = []
+tagsOf (accepted ∷ rs) = tagsOf rs
+tagsOf (tag t ∷ rs) = t ∷ tagsOf rs
+tagsOf (refused q ∷ rs) = tagsOf rs
