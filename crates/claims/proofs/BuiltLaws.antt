@@ -1,0 +1,82 @@
+-- What an answer 0 of the builder tells: the key has a known size, the chain is valid, and the book in the buffer is that of
+-- the key's schedule and the chain.
+-- Assumes nothing.
+use mathlib.Core.Path.{_≡_, refl, sym, ap, _∙_, subst}
+use mathlib.Core.Bool.{Bool, true, false, cond, not, _||_}
+use mathlib.Core.List.{List, [], _∷_, _++_}
+use Prim.Native.Nat.{ℕ, _<_}
+use native.Mathlib.Omega.{arith}
+use lib.Dec.{eqb, lit<}
+use lib.ListN.{length, take, drop}
+use lib.Seq.{take-at}
+use Rattle.lists.specs.Refusals.{first}
+use Rattle.lists.proofs.RefusalLaws.{Clear}
+use Rattle.cipher.specs.KeySize.{rounds, bookLength, sizeBy, sizeOfKey}
+use Rattle.cipher.specs.Schedule.{schedule}
+use Rattle.cipher.specs.Chain.{Chain, chainTests}
+use Rattle.cipher.specs.Book.{bookOf, Book}
+use Rattle.cipher.specs.Answers.{keyTests, keyLengthSize, keySize, roomTests}
+use Rattle.cipher.specs.declared.size.SizeFound.{SizeFound}
+use Rattle.cipher.specs.declared.size.SizeFound.the-variants.{Found, Unknown}
+use Rattle.cipher.specs.declared.size.KeySize.the-variants.{Bytes16, Bytes24, Bytes32}
+use Rattle.cipher.proofs.CheckLaws.{Numbered}
+use Rattle.cipher.proofs.ChainTests.{chain-tested}
+use Rattle.cipher.proofs.BookLaw.{book-size, book-made}
+use Rattle.book.specs.Answers.{builtInto, buildAnswer}
+use Rattle.claims.specs.Built.{Built, bookIn, keyRounds}
+
+-- an answer 0 is no refusal's
+not-refused : (ts : List (Bool × ℕ)) (out x y : List ℕ) → Numbered ts → _≡_ {A = ℕ × List ℕ} (first ts (λ n. (n, out)) (0, x)) (0, y) → Clear ts × (x ≡ y)
+unfolding first
+not-refused [] out x y n e = (tt, ap (λ (r : ℕ × List ℕ). r .1) e)
+not-refused (t ∷ ts) out x y n e = go (t .0) refl (not-refused ts out x y (n .1)) e
+  where
+    go : (b : Bool) → t .0 ≡ b → (_≡_ {A = ℕ × List ℕ} (first ts (λ n. (n, out)) (0, x)) (0, y) → Clear ts × (x ≡ y))
+        → _≡_ {A = ℕ × List ℕ} (cond b (t .1, out) (first ts (λ n. (n, out)) (0, x))) (0, y) → ((t .0 ≡ false) × Clear ts) × (x ≡ y)
+    go true d k h = let q : t .1 ≡ 0 = ap (λ (r : ℕ × List ℕ). r .0) h in absurd (omega (arith, n .0))
+    go false d k h = let p = k h in ((d, p .0), p .1)
+
+clear-front : (a b : List (Bool × ℕ)) → Clear (a ++ b) → Clear a
+clear-front [] b c = tt
+clear-front (t ∷ a) b c = (c .0, clear-front a b (c .1))
+
+-- the size of a key that is not refused
+size-known : (n : ℕ) → not (eqb n 16 || eqb n 24 || eqb n 32) ≡ false → sizeOfKey n ≡ Found (keyLengthSize n)
+unfolding sizeBy keyLengthSize
+size-known n = go (eqb n 16) (eqb n 24) (eqb n 32)
+  where
+    go : (a b c : Bool) → not (a || b || c) ≡ false
+        → cond a (Found Bytes16) (cond b (Found Bytes24) (cond c (Found Bytes32) Unknown)) ≡ Found (cond a Bytes16 (cond b Bytes24 Bytes32))
+    go true b c e = refl
+    go false true c e = refl
+    go false false true e = refl
+    go false false false e = let w : _≡_ {A = ℕ} 0 1 = cc in absurd (omega arith)
+
+module _ (key ch out held : List ℕ) (built : Built key ch out held) where
+  abbrev book : List ℕ
+  book = bookOf (keyRounds key) (schedule (keySize key) key) ch
+
+  numbered : Numbered (keyTests key ++ (chainTests (keySize key) ch ++ roomTests (bookLength (keySize key)) out))
+  unfolding chainTests
+  numbered = (lit< tt, (lit< tt, (lit< tt, (lit< tt, (lit< tt, (lit< tt, tt))))))
+
+  parts : Clear (keyTests key ++ (chainTests (keySize key) ch ++ roomTests (bookLength (keySize key)) out))
+      × (book ++ drop (bookLength (keySize key)) out ≡ held)
+  unfolding builtInto
+  parts =
+      not-refused (keyTests key ++ (chainTests (keySize key) ch ++ roomTests (bookLength (keySize key)) out)) out
+      (book ++ drop (bookLength (keySize key)) out) held numbered built
+
+  pub built-size : sizeOfKey (length key) ≡ Found (keySize key)
+  built-size = size-known (length key) (parts .0 .0)
+
+  pub built-chain : Chain (keySize key) ch
+  built-chain = chain-tested (keySize key) ch (clear-front (chainTests (keySize key) ch) (roomTests (bookLength (keySize key)) out) (parts .0 .1))
+
+  pub built-is : bookIn key held ≡ bookOf (keyRounds key) (schedule (keySize key) key) ch
+  built-is =
+      ap (take (bookLength (keySize key))) (sym (parts .1))
+      ∙ take-at book (drop (bookLength (keySize key)) out) (bookLength (keySize key)) (book-size (keyRounds key) (schedule (keySize key) key) ch)
+
+  pub built-book : Book (keyRounds key) (schedule (keySize key) key) ch (bookIn key held)
+  built-book = subst (λ (b : List ℕ). Book (keyRounds key) (schedule (keySize key) key) ch b) (sym built-is) (book-made (keyRounds key) (schedule (keySize key) key) ch)
