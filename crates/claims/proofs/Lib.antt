@@ -1,2 +1,3 @@
 pub mod BuiltLaws
 pub mod SessionTheorem
+pub mod RoundsTheorem

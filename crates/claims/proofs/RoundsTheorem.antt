@@ -1,0 +1,39 @@
+-- Demand 3's rounds (document 01, "The model session of demand 3", "After n rounds"): the book's first n rounds on any 16 bytes,
+-- decoded by set n, are the first n rounds of LEA on those bytes decoded by set 0. Said of any rows of round keys and any valid
+-- chain.
+-- Assumes nothing.
+use mathlib.Core.Path.{_≡_, refl, ap, _∙_}
+use mathlib.Core.List.{List}
+use Prim.Native.Nat.{ℕ, _≤_}
+use lib.ListN.{length}
+use Rattle.cipher.specs.KeySize.{rounds}
+use Rattle.cipher.specs.Schedule.{schedule}
+use Rattle.cipher.specs.Lea.{firstRounds}
+use Rattle.cipher.specs.Coding.{decoded}
+use Rattle.cipher.specs.Chain.{chainSet, Chain}
+use Rattle.cipher.specs.Book.{Book}
+use Rattle.cipher.specs.Answers.{keySize}
+use Rattle.cipher.specs.declared.size.KeySize.{KeySize}
+use Rattle.cipher.proofs.BookMeaning.{book-rounds}
+use Rattle.driver.specs.Driver.{roundsAnswer}
+use Rattle.driver.proofs.AnswerLaws.{rounds-some}
+use Rattle.claims.specs.Built.{Built, bookIn, keyRounds}
+use Rattle.claims.proofs.BuiltLaws.{built-chain, built-book}
+use Rattle.claims.proofs.SessionTheorem.{book-found}
+
+-- n rounds by the book are not refused, and are n rounds of LEA
+abbrev pub RoundsOfLea : List (List ℕ) → List ℕ → List ℕ → ℕ → List ℕ → Type 0
+RoundsOfLea rows ch bk n b =
+    ((roundsAnswer bk n b) .0 ≡ 0) × (decoded (chainSet ch n) ((roundsAnswer bk n b) .1) ≡ firstRounds rows n (decoded (chainSet ch 0) b))
+
+pub after-rounds : (z : KeySize) (rows : List (List ℕ)) (ch bk : List ℕ) → Chain z ch → Book (rounds z) rows ch bk
+    → (b : List ℕ) → length b ≡ 16 → (n : ℕ) → 1 ≤ n → n ≤ rounds z → RoundsOfLea rows ch bk n b
+after-rounds z rows ch bk v h b l n p q =
+    let e = rounds-some bk n b z (book-found z rows ch bk v h) l q in
+    (ap (λ (r : ℕ × List ℕ). r .0) e, ap (λ (r : ℕ × List ℕ). decoded (chainSet ch n) (r .1)) e ∙ book-rounds z rows ch bk v h b n q)
+
+-- for every key, chain and buffer with which a book is built
+pub after-rounds-built : (key ch out held : List ℕ) → Built key ch out held
+    → (b : List ℕ) → length b ≡ 16 → (n : ℕ) → 1 ≤ n → n ≤ keyRounds key → RoundsOfLea (schedule (keySize key) key) ch (bookIn key held) n b
+after-rounds-built key ch out held h =
+    after-rounds (keySize key) (schedule (keySize key) key) ch (bookIn key held) (built-chain key ch out held h) (built-book key ch out held h)
