@@ -1,3 +1,4 @@
 pub mod Model
 pub mod Calls
 pub mod Built
+pub mod Sealing

@@ -1,0 +1,31 @@
+-- The way of a sealed file (document 01, "The model session of demand 3": "The sealed file is what the driver writes, from any
+-- 16-byte IV, for the message coded for sealing under U"): what the three calls on it are to answer.
+-- Assumes nothing.
+use mathlib.Core.Path.{_≡_}
+use mathlib.Core.List.{List, _++_}
+use Prim.Native.Nat.{ℕ, _≤_, _<_}
+use lib.ListN.{length, drop}
+use Rattle.cipher.specs.Coding.{setOf}
+use Rattle.pad.specs.Padding.{paddedForSealing, codedText}
+use Rattle.pad.specs.Answers.{sealingAnswer}
+use Rattle.driver.specs.Driver.{sealed, sealAnswer}
+use Rattle.archive.specs.Archive.{openAnswer}
+
+-- the message coded for sealing under the set u, and the sealed file
+abbrev pub codeOf : List ℕ → List ℕ → List ℕ
+codeOf u m = codedText (setOf u) (paddedForSealing m)
+
+abbrev pub fileOf : List ℕ → List ℕ → List ℕ → List ℕ → List ℕ
+fileOf u bk iv m = sealed bk iv (codeOf u m)
+
+-- a call that writes x into the front of a buffer and tells its length; it gives refusal 9 exactly where the buffer is shorter
+-- than `room`, and no other
+pub record Writes (answer : List ℕ → (ℕ × ℕ) × List ℕ) (room : ℕ) (x : List ℕ) : Type 0 where
+  pub short : (out : List ℕ) → length out < room → answer out ≡ ((9, 0), out)
+  pub written : (out : List ℕ) → room ≤ length out → answer out ≡ ((0, length x), x ++ drop (length x) out)
+
+-- "Opened with the same key, set r and IV it gives the message and its length; of all refusals only 9 can be given on this way"
+pub record SealedWay (key u s bk iv m : List ℕ) : Type 0 where
+  pub coding : Writes (sealingAnswer u m) (length (codeOf u m)) (codeOf u m)
+  pub sealing : Writes (sealAnswer bk iv (codeOf u m)) (length (fileOf u bk iv m)) (fileOf u bk iv m)
+  pub opening : Writes (openAnswer key s iv (fileOf u bk iv m)) (length (fileOf u bk iv m)) m
