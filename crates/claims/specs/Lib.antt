@@ -2,3 +2,4 @@ pub mod Model
 pub mod Calls
 pub mod Built
 pub mod Sealing
+pub mod Tags
