@@ -4,5 +4,6 @@ pub mod LoneSets
 pub mod CmacBlocks
 pub mod RefusedCalls
 pub mod MessageCalls
+pub mod TagTheorem
 pub mod SealTheorem
 pub mod RoundsTheorem
