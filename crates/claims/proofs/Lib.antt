@@ -7,3 +7,4 @@ pub mod MessageCalls
 pub mod TagTheorem
 pub mod SealTheorem
 pub mod RoundsTheorem
+pub mod PremisesMet

@@ -3,3 +3,4 @@ pub mod Calls
 pub mod Built
 pub mod Sealing
 pub mod Tags
+pub mod Identity
