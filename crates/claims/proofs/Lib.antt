@@ -8,3 +8,4 @@ pub mod TagTheorem
 pub mod SealTheorem
 pub mod RoundsTheorem
 pub mod PremisesMet
+pub mod Marked
