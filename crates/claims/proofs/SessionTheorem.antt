@@ -137,12 +137,14 @@ module _ (z : KeySize) (rows : List (List ℕ)) (ch bk : List ℕ) (v : Chain z 
       go (yes a) false e (no t) =
           like (ap blockTold (block-22 bk m d z book-found a e (omega arith))) (model-block-22 E U S m x a (sym (s .ended) ∙ e) (omega (arith, s .taken))) (refl, s)
       go (yes a) false e (yes t) =
-          like (ap blockTold (block-done bk m d z book-found a e t)) (model-block E U S m x a (sym (s .ended) ∙ e) (omega (arith, s .taken)))
-          (refl, unfold blockTaken in record {
-            held = pass-block (d .block) m ∙ ap (λ (y : List ℕ). E (xorBlock y (decoded U m))) (s .held);
-            taken = ap suc (s .taken);
-            ended = s .ended;
-          })
+          like (ap blockTold (block-done bk m d z book-found a e t)) (model-block E U S m x a (sym (s .ended) ∙ e) (omega (arith, s .taken))) (
+            refl,
+            unfold blockTaken in record {
+              held = pass-block (d .block) m ∙ ap (λ (y : List ℕ). E (xorBlock y (decoded U m))) (s .held);
+              taken = ap suc (s .taken);
+              ended = s .ended;
+            },
+          )
 
   last-step : (m : List ℕ) (k : ℕ) (d : Session) (x : State) → Same d x → Like (driverCall bk (lastCall m k) d) (modelCall E U S (lastCall m k) x)
   unfolding driverCall answerOf
