@@ -27,13 +27,12 @@ unfoldable pub driverCall : List ℕ → Call → Session → Answer × Session
 driverCall bk (blockCall m) s = blockTold (blockAnswer bk m s)
 driverCall bk (lastCall m k) s = lastTold (lastAnswer bk m k s)
 
--- "The first gets a session just begun .., each later one the session that the call before it returned or left": the answers to a
--- list of calls, in their order
+-- the answers to a list of calls, in their order: each call gets what the one before it left
 unfoldable pub run : {S : Type 0} → (Call → S → Answer × S) → List Call → S → List Answer
 run f [] s = []
 run f (c ∷ cs) s = (f c s) .0 ∷ run f cs ((f c s) .1)
 
--- "a session just begun with the book, .., and all get that book"
+-- the driver's answers: the first call gets the session that beginning with the book gives, and all calls get that book
 unfoldable pub driverAnswers : List ℕ → List Call → List Answer
 driverAnswers bk cs = run (driverCall bk) cs ((beginAnswer bk) .1)
 
@@ -41,13 +40,13 @@ driverAnswers bk cs = run (driverCall bk) cs ((beginAnswer bk) .1)
 unfoldable pub modelAnswers : (List ℕ → List ℕ) → Set → Set → List Call → List Answer
 modelAnswers cipher U S cs = run (modelCall cipher U S) cs begun
 
--- "All but the last block go in block calls, the last one and the kind in the last call"
+-- blocks as calls: the last of them, with the kind, as the last call, the others as block calls
 unfoldable pub callsOf : ℕ → List (List ℕ) → List Call
 callsOf k [] = []
 callsOf k (b ∷ []) = lastCall b k ∷ []
 callsOf k (b ∷ c ∷ bs) = blockCall b ∷ callsOf k (c ∷ bs)
 
--- "A message's coded blocks and kind are those of the pad's coding for a tag under U"
+-- the calls of a message: its blocks and its kind are what the pad's coding for a tag under U makes of it
 unfoldable pub messageCalls : Set → List ℕ → List Call
 messageCalls U m = callsOf (kindOf (length m)) (blocks (codedText U (paddedForTag m)))
 

@@ -1,4 +1,4 @@
--- The identity chain (document 01, "Table of examples": "identity codings, masks 0").
+-- The identity chain (document 01, "Table of examples", its first paragraph).
 -- Assumes nothing.
 use mathlib.Core.List.{List, _++_}
 use Prim.Native.Nat.{ℕ, _+_, _*_, _%_}

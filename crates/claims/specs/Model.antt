@@ -11,53 +11,51 @@ use Rattle.lists.specs.Refusals.{first}
 use Rattle.cipher.specs.Cmac.{subkey1, subkey2}
 use Rattle.cipher.specs.Coding.{Set, coded, decoded}
 
--- "Its calls are block calls and last calls": a block call with a block, a last call with a block and a kind (01's term), of
--- any bytes
+-- a call of a session: with a block, or, as its last one, with a block and a kind (01's term). The bytes are any, of any length
 pub data Call : Type 0 where
   blockCall : List ℕ → Call
   lastCall : List ℕ → ℕ → Call
 
--- "the answers in their order (accepted, the tag, or the refusal's number)"
+-- what a call is answered: that it was taken, a tag, or the number of a refusal
 pub data Answer : Type 0 where
   accepted : Answer
   tag : List ℕ → Answer
   refused : ℕ → Answer
 
--- "Its state is a block X, a count n and whether it has finished"
+-- what the model holds: the block X of document 01, how many block calls it has taken, and whether it has finished
 pub record State : Type 0 where
   pub held : List ℕ
   pub taken : ℕ
   pub ended : Bool
 
--- "at first the zero block, 0 and no"
+-- the model before any call
 abbrev pub begun : State
 begun = record { held = zeros; taken = 0; ended = false }
 
--- "the answer is the first number that fits among the refusals below, with n as the count of accepted block calls and finished
--- as the model has it": 7, block not 16 bytes; 10, kind neither 0 nor 1; 21, a block or last call on a finished session; 22, a
--- block call after 65,535 accepted ones
+-- the refusals that a call can meet ("Refusals from the input" and "from the state"), judged by the model's own count and end: 7
+-- for a block of another length, 10 for a kind above 1, 21 where the model has finished, 22 for one block call too many
 unfoldable pub refusals : Call → State → List (Bool × ℕ)
 refusals (blockCall m) s = (not (eqb (length m) 16), 7) ∷ (s .ended, 21) ∷ (leb 65535 (s .taken), 22) ∷ []
 refusals (lastCall m k) s = (not (eqb (length m) 16), 7) ∷ (ltb 1 k, 10) ∷ (s .ended, 21) ∷ []
 
--- "xor K1, for kind 1 with K2 in place of K1"
+-- the subkey of the last block: K1 for kind 0, K2 for kind 1
 unfoldable pub kindKey : (List ℕ → List ℕ) → ℕ → List ℕ
 kindKey cipher zero = subkey1 cipher
 kindKey cipher (suc k) = subkey2 cipher
 
--- "Block call with block m: X becomes LEA(X xor (m decoded by U)), n grows by 1"
+-- behind a block call: the block, decoded by U, is xored into X and the result enciphered; the count is one more
 unfoldable pub blockTaken : (List ℕ → List ℕ) → Set → List ℕ → State → State
 blockTaken cipher U m s = record { held = cipher (xorBlock (s .held) (decoded U m)); taken = suc (s .taken); ended = s .ended }
 
--- "Last call with block m: the tag is LEA(X xor (m decoded by U) xor K1), .., coded by set r. The model has finished"
+-- the tag of a last call: the same with the subkey xored in, coded by set r. The model has then finished
 unfoldable pub tagOf : (List ℕ → List ℕ) → Set → Set → List ℕ → ℕ → State → List ℕ
 tagOf cipher U S m k s = coded S (cipher (xorBlock (xorBlock (s .held) (decoded U m)) (kindKey cipher k)))
 
 abbrev pub lastTaken : State → State
 lastTaken s = record { held = s .held; taken = s .taken; ended = true }
 
--- a call on the model: its answer and the state behind it. "Nothing changes" where it is refused; "a call that no number fits is
--- accepted"
+-- a call on the model: its answer and the state behind it. A refused call leaves the state as it is; one that meets no refusal is
+-- taken
 unfoldable pub modelCall : (List ℕ → List ℕ) → Set → Set → Call → State → Answer × State
 modelCall cipher U S (blockCall m) s = first (refusals (blockCall m) s) (λ q. (refused q, s)) (accepted, blockTaken cipher U m s)
 modelCall cipher U S (lastCall m k) s = first (refusals (lastCall m k) s) (λ q. (refused q, s)) (tag (tagOf cipher U S m k s), lastTaken s)

@@ -1,5 +1,5 @@
--- The way of a sealed file (document 01, "The model session of demand 3": "The sealed file is what the driver writes, from any
--- 16-byte IV, for the message coded for sealing under U"): what the three calls on it are to answer.
+-- The way of a sealed file (document 01, "The model session of demand 3", its last paragraph but one): a message is coded for
+-- sealing under U, sealed by the driver from an IV, and opened; what the three calls are to answer.
 -- Assumes nothing.
 use mathlib.Core.Path.{_≡_}
 use mathlib.Core.List.{List, _++_}
@@ -24,7 +24,7 @@ pub record Writes (answer : List ℕ → (ℕ × ℕ) × List ℕ) (room : ℕ) 
   pub short : (out : List ℕ) → length out < room → answer out ≡ ((9, 0), out)
   pub written : (out : List ℕ) → room ≤ length out → answer out ≡ ((0, length x), x ++ drop (length x) out)
 
--- "Opened with the same key, set r and IV it gives the message and its length; of all refusals only 9 can be given on this way"
+-- none of the three calls gives another refusal than 9, and opening gives back the message and its length
 pub record SealedWay (key u s bk iv m : List ℕ) : Type 0 where
   pub coding : Writes (sealingAnswer u m) (length (codeOf u m)) (codeOf u m)
   pub sealing : Writes (sealAnswer bk iv (codeOf u m)) (length (fileOf u bk iv m)) (fileOf u bk iv m)
