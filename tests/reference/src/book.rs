@@ -32,7 +32,7 @@ fn block_half(block: &Block, p: usize) -> u8 {
 }
 
 /// A block doubled, byte 0 highest.
-fn double(block: Block) -> Block {
+pub fn double(block: Block) -> Block {
     let number = u128::from_be_bytes(block);
     let fallen = if number >> 127 == 1 { 0x87 } else { 0 };
     ((number << 1) ^ fallen).to_be_bytes()

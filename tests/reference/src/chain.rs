@@ -139,6 +139,27 @@ pub fn decode(set: &[u8], coded: &Block) -> Block {
     code(&inverse, coded)
 }
 
+/// What each byte becomes in each place of a block coded by a set.
+pub fn images(set: &[u8]) -> [[u8; 256]; 16] {
+    let mut images = [[0; 256]; 16];
+    for (pair, place) in set.chunks_exact(2 * CODING).zip(&mut images) {
+        let (low, high) = pair.split_at(CODING);
+        for (h, row) in high.iter().zip(place.chunks_exact_mut(16)) {
+            for (l, image) in low.iter().zip(row) {
+                *image = l + 16 * h;
+            }
+        }
+    }
+    images
+}
+
+/// What each byte becomes in each place of a block decoded by a set.
+pub fn preimages(set: &[u8]) -> [[u8; 256]; 16] {
+    let mut inverse = [0; SET];
+    invert(set, &mut inverse);
+    images(&inverse)
+}
+
 /// A valid chain by chance; `below` gives a number below its argument.
 pub fn random(size: Size, mut below: impl FnMut(usize) -> usize) -> Vec<u8> {
     let rounds = size.rounds();

@@ -3,7 +3,7 @@
 
 use crate::book::{ADD, FOLD, GROUP, ROUND, START, TURN};
 use crate::chain::MIDDLES;
-use crate::lea::Block;
+use crate::lea::{whole, Block};
 use crate::refusal;
 use crate::Size;
 
@@ -110,12 +110,6 @@ impl<'a> Book<'a> {
         let folded = fold(&self.groups[GROUP * g..][..GROUP], x, &halves(coded));
         self.run(usize::MAX, folded)
     }
-}
-
-/// Refuses all but 16 bytes.
-#[inline]
-fn whole(bytes: &[u8]) -> Result<&Block, u32> {
-    bytes.try_into().map_err(|_| refusal::BLOCK_LENGTH)
 }
 
 /// A block through the tables of one round.

@@ -191,13 +191,10 @@ pub fn backward(rows: &[Row], x: State) -> State {
     [a, b, c, d]
 }
 
-/// The words of a block of any length; refuses all but 16 bytes.
+/// A block given as bytes; refuses all but 16 of them.
 #[inline]
-fn checked(block: &[u8]) -> Result<State, u32> {
-    match block.try_into() {
-        Ok(whole) => Ok(state(whole)),
-        Err(_) => Err(refusal::BLOCK_LENGTH),
-    }
+pub fn whole(bytes: &[u8]) -> Result<&Block, u32> {
+    bytes.try_into().map_err(|_| refusal::BLOCK_LENGTH)
 }
 
 /// A block enciphered.
@@ -211,7 +208,7 @@ pub fn encipher(key: &[u8], text: &[u8]) -> Result<Block, u32> {
 pub fn decipher(key: &[u8], text: &[u8]) -> Result<Block, u32> {
     let mut rows = EMPTY;
     let size = schedule(key, &mut rows)?;
-    let x = checked(text)?;
+    let x = state(whole(text)?);
     Ok(block(backward(&rows[..size.rounds()], x)))
 }
 
@@ -220,7 +217,7 @@ pub fn decipher(key: &[u8], text: &[u8]) -> Result<Block, u32> {
 pub fn first_rounds(key: &[u8], count: usize, text: &[u8]) -> Result<Block, u32> {
     let mut rows = EMPTY;
     let size = schedule(key, &mut rows)?;
-    let x = checked(text)?;
+    let x = state(whole(text)?);
     Ok(block(forward(&rows[..count.min(size.rounds())], x)))
 }
 

@@ -49,7 +49,7 @@ fn write(u: &[u8], whole: &[u8], last: Option<Block>, out: &mut [u8]) -> Result<
         .chain(last);
     let total = whole.len() + last.map_or(0, |block| block.len());
     let room = out.get_mut(..total).ok_or(refusal::SHORT_OUTPUT)?;
-    let images = images(u);
+    let images = chain::images(u);
     for (block, place) in blocks.zip(room.chunks_exact_mut(BLOCK)) {
         let block: Block = block;
         for k in 0..BLOCK {
@@ -57,18 +57,4 @@ fn write(u: &[u8], whole: &[u8], last: Option<Block>, out: &mut [u8]) -> Result<
         }
     }
     Ok(total)
-}
-
-/// What each byte becomes in each place of a block.
-fn images(u: &[u8]) -> [[u8; 256]; BLOCK] {
-    let mut images = [[0; 256]; BLOCK];
-    for (pair, place) in u.chunks_exact(2 * chain::CODING).zip(&mut images) {
-        let (low, high) = pair.split_at(chain::CODING);
-        for (h, row) in high.iter().zip(place.chunks_exact_mut(16)) {
-            for (l, image) in low.iter().zip(row) {
-                *image = l + 16 * h;
-            }
-        }
-    }
-    images
 }

@@ -12,14 +12,16 @@ pub const WORD_RULE: u32 = 4;
 pub const MASK: u32 = 5;
 /// A book has none of the three lengths, or the tables of a round not 18,432 bytes.
 pub const BOOK_LENGTH: u32 = 6;
-/// A block or IV is not of 16 bytes.
+/// A block, IV or tag is not of 16 bytes.
 pub const BLOCK_LENGTH: u32 = 7;
-/// A message has over 1,048,575 bytes; a coded one none, over 1,048,576, or a part of a block.
+/// A message has over 1,048,575 bytes; a coded or sealed one none, over 1,048,576, or a part of a block.
 pub const MESSAGE_LENGTH: u32 = 8;
-/// The output is shorter than what is to be written.
+/// The output is shorter than what is to be written; for opening, than the sealed input.
 pub const SHORT_OUTPUT: u32 = 9;
 /// A kind is neither 0 nor 1.
 pub const KIND: u32 = 10;
+/// The padding of an opened message is none.
+pub const PADDING: u32 = 11;
 /// A call on a finished session.
 pub const FINISHED: u32 = 21;
 /// A block call after 65,535 of them.
