@@ -28,10 +28,11 @@ extern "C" {
 #define BOWLINETTE_REFUSED_WORD_RULE 4      /* word 3 of a set differs from word 0 of the set before */
 #define BOWLINETTE_REFUSED_MASK 5           /* a mask is over 1, or not 0 for half byte 0 */
 #define BOWLINETTE_REFUSED_BOOK_LENGTH 6    /* the book has none of the three lengths */
-#define BOWLINETTE_REFUSED_BLOCK_LENGTH 7   /* the block or IV is not of 16 bytes */
-#define BOWLINETTE_REFUSED_MESSAGE_LENGTH 8 /* the message, or the coded message, has a wrong length */
-#define BOWLINETTE_REFUSED_ROOM 9           /* out is shorter than what would be written */
+#define BOWLINETTE_REFUSED_BLOCK_LENGTH 7   /* the block, IV or tag is not of 16 bytes */
+#define BOWLINETTE_REFUSED_MESSAGE_LENGTH 8 /* the message, coded or sealed or not, has a wrong length */
+#define BOWLINETTE_REFUSED_ROOM 9           /* out is too short */
 #define BOWLINETTE_REFUSED_KIND 10          /* the kind is neither 0 nor 1 */
+#define BOWLINETTE_REFUSED_PADDING 11       /* what was opened does not end in padding */
 #define BOWLINETTE_REFUSED_FINISHED 21      /* a block or last call on a finished session */
 #define BOWLINETTE_REFUSED_LIMIT 22         /* a block call after 65,535 accepted ones */
 
@@ -47,13 +48,17 @@ extern "C" {
 #define BOWLINETTE_SET_LENGTH 512
 
 /*
- * The longest message, and the most bytes that a coded message has. The kind says whether a message
- * coded for a tag has padding: 0 no, 1 yes.
+ * The longest message, and the most bytes that a coded or sealed message has. The kind says whether a
+ * message coded for a tag has padding: 0 no, 1 yes.
  */
 #define BOWLINETTE_MESSAGE_LENGTH_MAX 1048575
 #define BOWLINETTE_CODE_LENGTH_MAX 1048576
 #define BOWLINETTE_KIND_WHOLE 0
 #define BOWLINETTE_KIND_PADDED 1
+
+/* What checking says of a tag. */
+#define BOWLINETTE_INVALID 0
+#define BOWLINETTE_VALID 1
 
 /* The tables of one round of a book, in bytes, and the block calls that a tag session takes. */
 #define BOWLINETTE_ROUND_LENGTH 18432
@@ -233,6 +238,35 @@ uint32_t bowlinette_last_call(uint8_t *block, uint16_t *taken, uint8_t *finished
                               const uint8_t *coded, size_t coded_length,
                               uint8_t kind,
                               uint8_t *tag);
+
+/*
+ * The functions below have the key, and set, the chain's set of number r, the last of its sets.
+ *
+ * Opens a sealed message: decodes the IV and the blocks by the set, deciphers them, takes the padding
+ * off and writes the message to the front of out: the bytes behind it stay as they were. How many were
+ * written goes to length.
+ * Refuses 1 (key length), 2 (length of the set), 3 (its permutations), 7 (IV length), 8 (sealed empty,
+ * over 1,048,576 bytes or no multiple of 16), 9 (out shorter than sealed), then 11 (padding: its last
+ * byte v is not 1 to 16, or the last v bytes are not all v).
+ */
+uint32_t bowlinette_open(const uint8_t *key, size_t key_length,
+                         const uint8_t *set, size_t set_length,
+                         const uint8_t *iv, size_t iv_length,
+                         const uint8_t *sealed, size_t sealed_length,
+                         uint8_t *out, size_t out_length,
+                         uint64_t *length);
+
+/*
+ * Checks a tag: whether, decoded by the set, it is the CMAC of the message, which is given plain. The
+ * answer, valid or invalid, goes to valid.
+ * Refuses 1 (key length), 2 (length of the set), 3 (its permutations), 7 (tag length), then 8 (message
+ * too long).
+ */
+uint32_t bowlinette_check(const uint8_t *key, size_t key_length,
+                          const uint8_t *set, size_t set_length,
+                          const uint8_t *message, size_t message_length,
+                          const uint8_t *tag, size_t tag_length,
+                          uint8_t *valid);
 
 #ifdef __cplusplus
 }

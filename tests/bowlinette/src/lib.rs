@@ -133,6 +133,30 @@ mod c {
             kind: u8,
             tag: *mut u8,
         ) -> u32;
+        pub fn bowlinette_open(
+            key: *const u8,
+            key_length: usize,
+            set: *const u8,
+            set_length: usize,
+            iv: *const u8,
+            iv_length: usize,
+            sealed: *const u8,
+            sealed_length: usize,
+            out: *mut u8,
+            out_length: usize,
+            length: *mut u64,
+        ) -> u32;
+        pub fn bowlinette_check(
+            key: *const u8,
+            key_length: usize,
+            set: *const u8,
+            set_length: usize,
+            message: *const u8,
+            message_length: usize,
+            tag: *const u8,
+            tag_length: usize,
+            valid: *mut u8,
+        ) -> u32;
     }
 }
 
@@ -388,5 +412,50 @@ impl Session {
                 tag.as_mut_ptr(),
             )
         }
+    }
+}
+
+/// A sealed message opened, to the front of out, and its length, into length.
+#[inline]
+pub fn open(
+    key: &[u8],
+    set: &[u8],
+    iv: &[u8],
+    sealed: &[u8],
+    out: &mut [u8],
+    length: &mut u64,
+) -> u32 {
+    unsafe {
+        c::bowlinette_open(
+            key.as_ptr(),
+            key.len(),
+            set.as_ptr(),
+            set.len(),
+            iv.as_ptr(),
+            iv.len(),
+            sealed.as_ptr(),
+            sealed.len(),
+            out.as_mut_ptr(),
+            out.len(),
+            length,
+        )
+    }
+}
+
+/// Whether a tag is that of a message, 1 or 0, into valid.
+#[inline]
+pub fn check(key: &[u8], set: &[u8], message: &[u8], tag: &[u8], valid: &mut u8) -> u32 {
+    unsafe {
+        c::bowlinette_check(
+            key.as_ptr(),
+            key.len(),
+            set.as_ptr(),
+            set.len(),
+            message.as_ptr(),
+            message.len(),
+            tag.as_ptr(),
+            tag.len(),
+            valid,
+        )
     }
 }

@@ -42,6 +42,9 @@ fn due() -> Vec<String> {
     lines.push(line(Ok(*b"in ink\x80\0\0\0\0\0\0\0\0\0")));
     lines.push("1 1 1 1 1 1".into());
     lines.extend(due_driver());
+    lines.push(line(Ok(*b"in ink\0\0\0\0\0\0\0\0\0\0")));
+    lines.push("1 1 1".into());
+    lines.push("1 1 1 1 1".into());
     lines
 }
 

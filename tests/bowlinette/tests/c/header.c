@@ -87,6 +87,51 @@ static void driver(void)
                         == BOWLINETTE_REFUSED_LIMIT);
 }
 
+/* CMAC of a message of one block, from its definition. */
+static void cmac_of_one_block(const uint8_t *key, size_t length, const uint8_t *message, uint8_t *tag)
+{
+    uint8_t x[BOWLINETTE_BLOCK_LENGTH] = {0}, k[BOWLINETTE_BLOCK_LENGTH + 1] = {0};
+    size_t i;
+
+    bowlinette_encipher(key, length, x, sizeof x, k);
+    for (i = 0; i < sizeof x; i++)
+        x[i] = (uint8_t)(message[i] ^ k[i] << 1 ^ k[i + 1] >> 7);
+    x[sizeof x - 1] ^= k[0] >> 7 ? 0x87 : 0;
+    bowlinette_encipher(key, length, x, sizeof x, tag);
+}
+
+/* Bytes opened, and a message checked beside its tag and another, by identity codings. */
+static void archive(const uint8_t *key, size_t length)
+{
+    static const uint8_t message[BOWLINETTE_BLOCK_LENGTH] = "in ink";
+    uint8_t set[BOWLINETTE_SET_LENGTH], sealed[BOWLINETTE_BLOCK_LENGTH], iv[BOWLINETTE_BLOCK_LENGTH] = {0};
+    uint8_t out[BOWLINETTE_BLOCK_LENGTH] = {0}, tag[BOWLINETTE_BLOCK_LENGTH], valid = 9;
+    const size_t one = BOWLINETTE_BLOCK_LENGTH;
+    uint64_t written = 0;
+    uint32_t number;
+    size_t i;
+
+    for (i = 0; i < sizeof set; i++)
+        set[i] = (uint8_t)(i % BOWLINETTE_CODING_LENGTH);
+    for (i = 0; i < one; i++)
+        tag[i] = i < 6 ? message[i] : 10;
+    bowlinette_encipher(key, length, tag, one, sealed);
+    show(bowlinette_open(key, length, set, sizeof set, iv, one, sealed, one, out, one, &written), out);
+    printf("%d", written == 6);
+    iv[one - 1] ^= 1;
+    number = bowlinette_open(key, length, set, sizeof set, iv, one, sealed, one, out, one, &written);
+    printf(" %d", number == BOWLINETTE_REFUSED_PADDING);
+    number = bowlinette_open(key, length, set, sizeof set, iv, one, sealed, one, out, one - 1, &written);
+    printf(" %d\n", number == BOWLINETTE_REFUSED_ROOM);
+    cmac_of_one_block(key, length, message, tag);
+    number = bowlinette_check(key, length, set, sizeof set, message, one, tag, one, &valid);
+    printf("%d %d", number == BOWLINETTE_DONE, valid == BOWLINETTE_VALID);
+    number = bowlinette_check(key, length, set, sizeof set, message, one - 1, tag, one, &valid);
+    printf(" %d %d", number == BOWLINETTE_DONE, valid == BOWLINETTE_INVALID);
+    number = bowlinette_check(key, length, set, sizeof set, message, one, tag, one - 1, &valid);
+    printf(" %d\n", number == BOWLINETTE_REFUSED_BLOCK_LENGTH);
+}
+
 int main(void)
 {
     uint8_t key[BOWLINETTE_KEY_LENGTH_256], block[BOWLINETTE_BLOCK_LENGTH + 1];
@@ -119,5 +164,6 @@ int main(void)
     checks();
     codes();
     driver();
+    archive(key, sizeof key);
     return 0;
 }
