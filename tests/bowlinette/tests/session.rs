@@ -5,13 +5,16 @@
 mod books;
 #[path = "shared/chains.rs"]
 mod chains;
+#[path = "shared/cmac.rs"]
+mod cmac;
 #[path = "shared/random.rs"]
 mod random;
 
+use cmac::cmac;
 use random::Random;
 use reference::chain::{self, Chain};
 use reference::driver;
-use reference::lea::{self, Block};
+use reference::lea::Block;
 use reference::Size;
 
 /// What a tag's place holds before a call.
@@ -272,24 +275,6 @@ fn the_limit() {
             assert_eq!(session.call(&book, &last), Err(21), "{size:?}");
         }
     }
-}
-
-/// CMAC of a message (SP 800-38B): the last block filled up and xored with its subkey, then chaining.
-fn cmac(key: &[u8], message: &[u8]) -> Block {
-    let double = |n: u128| (n << 1) ^ ((n >> 127) * 0x87);
-    let first = double(u128::from_be_bytes(lea::encipher(key, &[0; 16]).unwrap()));
-    let whole = !message.is_empty() && message.len() % 16 == 0;
-    let mut text = message.to_vec();
-    if !whole {
-        text.push(0x80);
-        text.resize((message.len() / 16 + 1) * 16, 0);
-    }
-    let subkey = if whole { first } else { double(first) }.to_be_bytes();
-    let last = text.len() - 16;
-    for (x, y) in text[last..].iter_mut().zip(subkey) {
-        *x ^= y;
-    }
-    lea::chain(key, &text).unwrap()
 }
 
 /// The tag of a message: coded for a tag, all blocks but the last in block calls.

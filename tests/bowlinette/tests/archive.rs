@@ -1,0 +1,505 @@
+//! Opening and checking on both versions: whole ways from a message to the archive's answer, damaged
+//! files and tags, each refusal, and what stays as it was.
+
+#[path = "shared/chains.rs"]
+mod chains;
+#[path = "shared/cmac.rs"]
+mod cmac;
+#[path = "shared/random.rs"]
+mod random;
+
+use cmac::cmac;
+use random::Random;
+use reference::archive;
+use reference::chain::{self, CODING, SET};
+use reference::lea::{self, Block};
+use reference::Size;
+
+/// What buffers, lengths and answers hold before a call.
+const FILL: u8 = 0xa5;
+const LENGTH: u64 = 0x5a5a_5a5a_5a5a_5a5a;
+
+/// The longest message, and the longest sealed one.
+const LONGEST: usize = 1_048_575;
+const SEALED: usize = 1_048_576;
+
+/// A sealed file opened into a filled buffer of a length: the message. Both versions must do the
+/// same, and leave the buffer behind the message as it was; a refusal all of it, and the length.
+fn open(key: &[u8], set: &[u8], iv: &[u8], sealed: &[u8], room: usize) -> Result<Vec<u8>, u32> {
+    let (mut out, mut other) = (vec![FILL; room], vec![FILL; room]);
+    let mut length = LENGTH;
+    let number = bowlinette::open(key, set, iv, sealed, &mut out, &mut length);
+    let want = archive::open(key, set, iv, sealed, &mut other);
+    let given = (key.len(), set.len(), iv.len(), sealed.len(), room);
+    assert_eq!(number, want.err().unwrap_or(0), "{given:?}");
+    assert_eq!(length, want.map_or(LENGTH, |n| n as u64), "{given:?}");
+    assert!(out == other, "{given:?}: the bytes differ");
+    let behind = &out[want.unwrap_or(0)..];
+    assert!(behind.iter().all(|&x| x == FILL), "{given:?}: {number}");
+    want.map(|n| out[..n].to_vec())
+}
+
+/// Whether a tag is Valid, the same on both versions; a refusal leaves the answer's place.
+fn check(key: &[u8], set: &[u8], message: &[u8], tag: &[u8]) -> Result<bool, u32> {
+    let mut valid = FILL;
+    let number = bowlinette::check(key, set, message, tag, &mut valid);
+    let want = archive::check(key, set, message, tag);
+    let given = (key.len(), set.len(), message.len(), tag.len());
+    assert_eq!(number, want.err().unwrap_or(0), "{given:?}");
+    assert_eq!(valid, want.map_or(FILL, u8::from), "{given:?}");
+    want
+}
+
+/// What pad, driver and archive have: the key, its book, the message set and set r.
+struct Product {
+    key: Vec<u8>,
+    u: Vec<u8>,
+    set: Vec<u8>,
+    book: Vec<u8>,
+}
+
+impl Product {
+    /// By chance, the book built by the proved library.
+    fn new(size: Size, random: &mut Random) -> Product {
+        let key = random.bytes(size.key_bytes());
+        let bytes = chains::valid(size, random);
+        let mut book = vec![0; size.book_bytes()];
+        assert_eq!(bowlinette::build(&key, &bytes, &mut book), 0);
+        let chain = chain::check(key.len(), &bytes).ok().unwrap();
+        let (u, set) = (chain.message().to_vec(), chain.set(size.rounds()).to_vec());
+        Product { key, u, set, book }
+    }
+
+    /// A message coded for sealing and sealed, by the proved library.
+    fn seal(&self, iv: &[u8], message: &[u8]) -> Vec<u8> {
+        let (mut coded, mut n) = (vec![0; message.len() + 16], 0);
+        let number = bowlinette::code_for_sealing(&self.u, message, &mut coded, &mut n);
+        assert_eq!(number, 0, "coding {} bytes", message.len());
+        coded.truncate(n as usize);
+        let mut sealed = vec![0; coded.len()];
+        let number = bowlinette::seal(&self.book, iv, &coded, &mut sealed, &mut n);
+        assert_eq!((number, n), (0, coded.len() as u64), "sealing");
+        sealed
+    }
+
+    /// A message coded for a tag, and its tag by a session, by the proved library.
+    fn tag(&self, message: &[u8]) -> Block {
+        let (mut coded, mut n, mut kind) = (vec![0; message.len() + 16], 0, 0);
+        let number = bowlinette::code_for_tag(&self.u, message, &mut coded, &mut n, &mut kind);
+        assert_eq!(number, 0, "coding {} bytes", message.len());
+        let (front, last) = coded[..n as usize].split_at(n as usize - 16);
+        let (mut tag, mut session) = ([0; 16], DIRTY);
+        assert_eq!(session.begin(&self.book), 0);
+        for block in front.chunks_exact(16) {
+            assert_eq!(session.block_call(&self.book, block), 0);
+        }
+        let number = session.last_call(&self.book, last, kind, &mut tag);
+        assert_eq!(number, 0, "the last call");
+        tag
+    }
+
+    /// A sealed file opened into a buffer with so many bytes more than it needs.
+    fn open(&self, iv: &[u8], sealed: &[u8], more: usize) -> Result<Vec<u8>, u32> {
+        open(&self.key, &self.set, iv, sealed, sealed.len() + more)
+    }
+
+    fn check(&self, message: &[u8], tag: &[u8]) -> Result<bool, u32> {
+        check(&self.key, &self.set, message, tag)
+    }
+}
+
+/// What is no session before it has begun.
+const DIRTY: bowlinette::Session = bowlinette::Session {
+    block: [7; 16],
+    taken: 7,
+    finished: 7,
+};
+
+/// A number below a bound, by chance.
+fn below(random: &mut Random, bound: usize) -> usize {
+    let four = random.bytes(4).try_into().unwrap();
+    u32::from_le_bytes(four) as usize % bound
+}
+
+/// The lengths of messages to take whole ways: named ones, and some by chance.
+fn lengths(random: &mut Random) -> Vec<usize> {
+    let mut lengths = vec![0, 1, 15, 16, 17, 31, 32, 33, 9_412];
+    lengths.extend((0..30).map(|_| below(random, 3_000)));
+    lengths
+}
+
+#[test]
+fn what_is_sealed_opens() {
+    let mut random = Random(90);
+    for size in Size::ALL.repeat(3) {
+        let product = Product::new(size, &mut random);
+        for n in lengths(&mut random).into_iter().chain([LONGEST]) {
+            let (iv, message) = (random.bytes(16), random.bytes(n));
+            let sealed = product.seal(&iv, &message);
+            let copy = sealed.clone();
+            for more in [0, 1, 16, 1_000] {
+                let told = product.open(&iv, &sealed, more);
+                assert!(told == Ok(message.clone()), "{size:?}, {n} bytes, {more}");
+            }
+            assert!(sealed == copy, "{size:?}, {n} bytes: the sealed file");
+        }
+    }
+}
+
+/// Messages that differ little from one: a bit changed, a byte or a block more or less.
+fn others(message: &[u8], random: &mut Random) -> Vec<Vec<u8>> {
+    let longer = |end: &[u8]| [message, end].concat();
+    let mut others = vec![longer(&[0]), longer(&[0x80]), longer(&[0; 16])];
+    if let Some((_, front)) = message.split_last() {
+        others.push(front.to_vec());
+        others.push(message[1..].to_vec());
+        let mut changed = message.to_vec();
+        changed[below(random, message.len())] ^= 1 << below(random, 8);
+        others.push(changed);
+    }
+    others
+}
+
+#[test]
+fn tags_are_valid_for_their_message_alone() {
+    let mut random = Random(91);
+    for size in Size::ALL.repeat(2) {
+        let product = Product::new(size, &mut random);
+        for n in lengths(&mut random) {
+            let message = random.bytes(n);
+            let tag = product.tag(&message);
+            assert_eq!(product.check(&message, &tag), Ok(true), "{size:?}, {n}");
+            for bit in 0..128 {
+                let mut other = tag;
+                other[bit / 8] ^= 1 << (bit % 8);
+                let told = product.check(&message, &other);
+                assert_eq!(told, Ok(false), "{size:?}, {n} bytes, bit {bit}");
+            }
+            for other in others(&message, &mut random) {
+                let told = product.check(&other, &tag);
+                assert_eq!(told, Ok(false), "{size:?}, {n} bytes, now {}", other.len());
+            }
+        }
+    }
+}
+
+/// The longest message has a tag that is Valid; one byte more is refused.
+#[test]
+fn the_longest_messages() {
+    let mut random = Random(92);
+    for size in Size::ALL {
+        let product = Product::new(size, &mut random);
+        let mut message = random.bytes(LONGEST);
+        let tag = product.tag(&message);
+        assert_eq!(product.check(&message, &tag), Ok(true), "{size:?}");
+        for at in [0, LONGEST / 2, LONGEST - 1] {
+            message[at] ^= 0x10;
+            assert_eq!(product.check(&message, &tag), Ok(false), "{size:?}, {at}");
+            message[at] ^= 0x10;
+        }
+        message.push(0);
+        for n in [0, 15, 17] {
+            let told = product.check(&message, &random.bytes(n));
+            assert_eq!(told, Err(7), "{size:?}, a tag of {n} bytes");
+        }
+        assert_eq!(product.check(&message, &tag), Err(8), "{size:?}");
+    }
+}
+
+/// Files that differ from a sealed one in a bit, or in which blocks they have.
+fn damaged(sealed: &[u8]) -> Vec<Vec<u8>> {
+    let blocks: Vec<&[u8]> = sealed.chunks_exact(16).collect();
+    let mut files = Vec::new();
+    for bit in 0..8 * sealed.len() {
+        let mut file = sealed.to_vec();
+        file[bit / 8] ^= 1 << (bit % 8);
+        files.push(file);
+    }
+    for k in 0..blocks.len() {
+        let mut fewer = blocks.clone();
+        fewer.remove(k);
+        files.extend([blocks[..k].concat(), blocks[k..].concat(), fewer.concat()]);
+        for other in 0..k {
+            let mut swapped = blocks.clone();
+            swapped.swap(k, other);
+            files.push(swapped.concat());
+        }
+    }
+    files.retain(|file| !file.is_empty() && file != sealed);
+    files
+}
+
+/// Damage is never overlooked: what opens is another message, or the padding is none.
+#[test]
+fn damaged_files() {
+    let mut random = Random(93);
+    let (mut refused, mut opened) = (0, 0);
+    for size in Size::ALL.repeat(4) {
+        let product = Product::new(size, &mut random);
+        for n in [0, 1, 15, 16, 17, 40, 48, 100] {
+            let (iv, message) = (random.bytes(16), random.bytes(n));
+            let sealed = product.seal(&iv, &message);
+            for file in damaged(&sealed) {
+                match product.open(&iv, &file, 0) {
+                    Err(11) => refused += 1,
+                    Err(number) => panic!("{size:?}, {n} bytes: {number}"),
+                    Ok(other) => {
+                        assert!(other != message, "{size:?}, {n} bytes");
+                        opened += 1;
+                    }
+                }
+            }
+        }
+    }
+    assert!(refused > 1_000 && opened > 1_000, "{refused}, {opened}");
+}
+
+/// With another key, another set or another IV a file does not open to its message, and a tag is not
+/// Valid. An IV changed in a byte changes that byte of the first block alone.
+#[test]
+fn other_keys_sets_and_ivs() {
+    let mut random = Random(94);
+    for size in Size::ALL.repeat(4) {
+        let right = Product::new(size, &mut random);
+        let (iv, message) = (random.bytes(16), random.bytes(100));
+        let (sealed, tag) = (right.seal(&iv, &message), right.tag(&message));
+        let wrong = Product::new(size, &mut random);
+        for (key, set) in [(&wrong.key, &right.set), (&right.key, &wrong.set)] {
+            let told = open(key, set, &iv, &sealed, sealed.len());
+            assert!(told != Ok(message.clone()), "{size:?}");
+            assert_eq!(check(key, set, &message, &tag), Ok(false), "{size:?}");
+        }
+        for k in 0..16 {
+            let mut other = iv.clone();
+            other[k] ^= 1 << below(&mut random, 8);
+            let told = right.open(&other, &sealed, 0).unwrap();
+            let differs = |i: usize| told[i] != message[i];
+            assert!((0..100).all(|i| differs(i) == (i == k)), "{size:?}, {k}");
+        }
+    }
+}
+
+/// A text of whole blocks sealed as the archive reads it, padding or not: CBC from the decoded IV,
+/// coded by set r.
+fn sealed_text(key: &[u8], set: &[u8], iv: &[u8], text: &[u8]) -> Vec<u8> {
+    let mut x = chain::decode(set, iv.try_into().unwrap());
+    let mut block = |plain: &[u8]| {
+        let folded: Vec<u8> = plain.iter().zip(x).map(|(a, b)| a ^ b).collect();
+        x = lea::encipher(key, &folded).unwrap();
+        chain::code(set, &x)
+    };
+    text.chunks_exact(16).flat_map(&mut block).collect()
+}
+
+/// A key, a set and an IV by chance.
+fn any(size: Size, random: &mut Random) -> (Vec<u8>, Vec<u8>, Vec<u8>) {
+    let key = random.bytes(size.key_bytes());
+    let set = chains::valid(size, random)[..SET].to_vec();
+    (key, set, random.bytes(16))
+}
+
+/// Texts that end in so many bytes: taken off, or 11.
+fn ends(size: Size, random: &mut Random, end: &[u8], taken_off: Option<usize>) {
+    let (key, set, iv) = any(size, random);
+    for blocks in 1..=3 {
+        let mut text = random.bytes(16 * blocks - end.len());
+        text.extend(end);
+        let sealed = sealed_text(&key, &set, &iv, &text);
+        let told = open(&key, &set, &iv, &sealed, sealed.len() + blocks);
+        let want = match taken_off {
+            Some(v) => Ok(text[..text.len() - v].to_vec()),
+            None => Err(11),
+        };
+        assert_eq!(told, want, "{size:?}, {blocks} blocks, end {end:02x?}");
+    }
+}
+
+/// Every last byte, behind as many as it says and behind others; 01's examples are 00, 11 and 03 02.
+#[test]
+fn every_padding() {
+    let mut random = Random(95);
+    for size in Size::ALL {
+        for end in [&[0x00][..], &[0x11], &[0x03, 0x02]] {
+            ends(size, &mut random, end, None);
+        }
+        for v in 0..=255 {
+            let whole = (1..=16).contains(&v).then_some(usize::from(v));
+            ends(size, &mut random, &[v; 16], whole);
+            for at in 0..15 {
+                let mut end = [v; 16];
+                end[at] ^= 1 << below(&mut random, 8);
+                let inside = whole.filter(|v| at < 16 - v);
+                ends(size, &mut random, &end, inside);
+            }
+        }
+    }
+}
+
+/// The first number, if any, of those whose reason holds.
+fn first(reasons: &[(u32, bool)]) -> u32 {
+    let fits = reasons.iter().find(|(_, holds)| *holds);
+    fits.map_or(0, |&(number, _)| number)
+}
+
+/// Keys of right lengths and of others.
+fn keys(random: &mut Random) -> Vec<Vec<u8>> {
+    let lengths = [16, 24, 32, 0, 1, 15, 17, 23, 25, 31, 33, 48, 272, 65_552];
+    lengths.map(|n| random.bytes(n)).to_vec()
+}
+
+/// A set, and some that are none: of other lengths, with and without a wrong coding, and of its own
+/// with one, each with the number due.
+fn sets(random: &mut Random) -> Vec<(Vec<u8>, u32)> {
+    let right = any(Size::Lea128, random).1;
+    let mut sets = vec![(right.clone(), 0)];
+    for n in [0, 1, 16, 256, SET - 16, SET - 1, SET + 1, 2 * SET] {
+        sets.push((right.iter().cycle().take(n).copied().collect(), 2));
+    }
+    for k in [0, 1, 15, 16, 30, 31] {
+        for at in [0, 7, 15] {
+            for value in [16, 255, right[CODING * k + (at + 1) % CODING]] {
+                let mut wrong = right.clone();
+                wrong[CODING * k + at] = value;
+                sets.push((wrong.clone(), 3));
+                wrong.pop();
+                sets.push((wrong, 2));
+            }
+        }
+    }
+    sets
+}
+
+/// Lengths near that of a block, and some that differ from it only above the low bits.
+const BLOCKS: [usize; 7] = [16, 0, 1, 15, 17, 272, 65_552];
+
+/// Sealed files of right and wrong lengths, and whether the padding of each is none.
+fn files(key: &[u8], set: &[u8], iv: &[u8], random: &mut Random) -> Vec<(Vec<u8>, bool)> {
+    let lengths = [
+        0,
+        1,
+        15,
+        17,
+        24,
+        31,
+        33,
+        SEALED - 1,
+        SEALED + 1,
+        SEALED + 16,
+    ];
+    let mut files: Vec<_> = lengths.map(|n| (random.bytes(n), false)).to_vec();
+    for n in [16, 32, 160, SEALED] {
+        for (end, wrong) in [(1, false), (0, true)] {
+            let mut text = random.bytes(n - 1);
+            text.push(end);
+            let sealed = match Size::of_key(key.len()) {
+                Some(_) => sealed_text(key, set, iv, &text),
+                None => text,
+            };
+            files.push((sealed, wrong));
+        }
+    }
+    files
+}
+
+/// One reason to refuse opening, or several at once, or none.
+#[test]
+fn refusals_of_opening() {
+    let mut random = Random(96);
+    let (sets, bytes) = (sets(&mut random), random.bytes(65_552));
+    for key in keys(&mut random) {
+        let wrong = Size::of_key(key.len()).is_none();
+        for (sealed, padding) in files(&key, &sets[0].0, &bytes[..16], &mut random) {
+            let n = sealed.len();
+            let length = n == 0 || n > SEALED || n % 16 != 0;
+            for room in [n, n + 1, n.saturating_sub(1), n / 2, 0] {
+                for iv in BLOCKS {
+                    for (set, number) in &sets[..if n > 200 { 10 } else { sets.len() }] {
+                        let due = first(&[
+                            (1, wrong),
+                            (*number, *number != 0),
+                            (7, iv != 16),
+                            (8, length),
+                            (9, room < n),
+                            (11, padding),
+                        ]);
+                        let told = open(&key, set, &bytes[..iv], &sealed, room);
+                        let given = (key.len(), set.len(), iv, n, room);
+                        assert_eq!(told.err().unwrap_or(0), due, "{given:?}");
+                    }
+                }
+            }
+        }
+    }
+}
+
+/// The same for checking.
+#[test]
+fn refusals_of_checking() {
+    let mut random = Random(97);
+    let (sets, bytes) = (sets(&mut random), random.bytes(SEALED + 16));
+    for key in keys(&mut random) {
+        let wrong = Size::of_key(key.len()).is_none();
+        for n in [
+            0,
+            1,
+            15,
+            16,
+            17,
+            LONGEST - 1,
+            LONGEST,
+            LONGEST + 1,
+            LONGEST + 17,
+        ] {
+            for tag in BLOCKS {
+                for (set, number) in &sets {
+                    let due = first(&[
+                        (1, wrong),
+                        (*number, *number != 0),
+                        (7, tag != 16),
+                        (8, n > LONGEST),
+                    ]);
+                    let told = check(&key, set, &bytes[..n], &bytes[..tag]);
+                    let given = (key.len(), set.len(), tag, n);
+                    assert_eq!(told.err().unwrap_or(0), due, "{given:?}");
+                }
+            }
+        }
+    }
+}
+
+/// Bytes by chance, of every length, opened into buffers of any length; now and then their padding
+/// is right.
+#[test]
+fn any_bytes_opened() {
+    let mut random = Random(98);
+    let mut seen = [0; 12];
+    for size in Size::ALL {
+        for n in (0..=600).chain([16, 32].repeat(2_000)) {
+            let (key, set, iv) = any(size, &mut random);
+            let room = match below(&mut random, 4) {
+                0 => below(&mut random, n + 2),
+                more => n + 7 * more,
+            };
+            let told = open(&key, &set, &iv, &random.bytes(n), room);
+            seen[told.err().unwrap_or(0) as usize] += 1;
+        }
+    }
+    assert!([0, 8, 9, 11].iter().all(|&k| seen[k] > 10), "{seen:?}");
+}
+
+/// Messages of every length with tags right and by chance.
+#[test]
+fn any_messages_checked() {
+    let mut random = Random(99);
+    for size in Size::ALL {
+        for n in 0..=600 {
+            let (key, set, tag) = any(size, &mut random);
+            let message = random.bytes(n);
+            let due = cmac(&key, &message);
+            let right = chain::decode(&set, tag[..].try_into().unwrap()) == due;
+            assert_eq!(check(&key, &set, &message, &tag), Ok(right), "{n} bytes");
+            let tag = chain::code(&set, &due);
+            assert_eq!(check(&key, &set, &message, &tag), Ok(true), "{n} bytes");
+        }
+    }
+}
