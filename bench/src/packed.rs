@@ -1,6 +1,7 @@
 //! The rounds of a book in Rust in the shape of the proved driver: a block stays packed in 16 bytes,
-//! two half bytes are looked up at a time, the three words side by side. As there, nothing is
-//! checked inside a round: each index is below 18,432 whatever the bytes are.
+//! two half bytes are looked up at a time, the three words side by side, and each round writes into
+//! the block it is lent. As there, nothing is checked inside a round: each index is below 18,432
+//! whatever the bytes are.
 
 use reference::book::{ADD, GROUP, ROUND, START};
 use reference::chain::MIDDLES;
@@ -78,15 +79,19 @@ fn turn_two(t: &Tables, s: &[u8; 12], i: usize, m: usize, [u, v]: [usize; 2]) ->
 }
 
 #[inline]
-fn turns(t: &Tables, s: &[u8; 12], x: &Block) -> Block {
-    let mut y = [0; 16];
+fn turns(t: &Tables, s: &[u8; 12], y: &mut Block) {
     for m in 0..4 {
+        y[m + 12] = y[m];
         y[m] = turn_two(t, s, 0, m, [6, 5]);
         y[m + 4] = turn_two(t, s, 1, m, [2, 1]);
         y[m + 8] = turn_two(t, s, 2, m, [1, 0]);
-        y[m + 12] = x[m];
     }
-    y
+}
+
+#[inline]
+fn step(t: &Tables, y: &mut Block) {
+    let s = sums(t, y);
+    turns(t, &s, y);
 }
 
 /// A block through the first rounds of a book, all of them where the count is more.
@@ -95,10 +100,10 @@ pub fn run_rounds(book: &[u8], count: usize, block: &[u8]) -> Result<Block, u32>
     if !Size::ALL.iter().any(|s| s.book_bytes() == book.len()) {
         return Err(refusal::BOOK_LENGTH);
     }
-    let mut x: Block = block.try_into().map_err(|_| refusal::BLOCK_LENGTH)?;
+    let mut y: Block = block.try_into().map_err(|_| refusal::BLOCK_LENGTH)?;
     for tables in book[START + 3 * GROUP..].chunks_exact(ROUND).take(count) {
         let tables: &Tables = tables.try_into().unwrap();
-        x = turns(tables, &sums(tables, &x), &x);
+        step(tables, &mut y);
     }
-    Ok(x)
+    Ok(y)
 }
