@@ -1,4 +1,5 @@
--- `turns::turns` meets its contract. The invariant: m bytes of each new word are made. Assumes nothing.
+-- `turns::turns` meets its contract. The invariant: m bytes of each new word are made, and of word 0 the others
+-- are as they were. Assumes nothing.
 use Prim.Native.Nat.{_-_, _≤_}
 use native.Mathlib.Omega.{arith}
 use borrow.Author.Needs.{needs}
