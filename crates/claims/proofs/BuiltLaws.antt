@@ -4,25 +4,24 @@
 use mathlib.Core.Path.{_≡_, refl, sym, ap, _∙_, subst}
 use mathlib.Core.Bool.{Bool, true, false, cond, not, _||_}
 use mathlib.Core.List.{List, [], _∷_, _++_}
-use Prim.Native.Nat.{ℕ, _<_}
+use Prim.Native.Nat.{ℕ}
 use native.Mathlib.Omega.{arith}
 use lib.Dec.{eqb, lit<}
 use lib.ListN.{length, take, drop}
 use lib.Seq.{take-at}
 use Rattle.lists.specs.Refusals.{first}
 use Rattle.lists.proofs.RefusalLaws.{Clear}
-use Rattle.cipher.specs.KeySize.{rounds, bookLength, sizeBy, sizeOfKey}
+use Rattle.cipher.specs.KeySize.{bookLength, sizeBy, sizeOfKey}
 use Rattle.cipher.specs.Schedule.{schedule}
 use Rattle.cipher.specs.Chain.{Chain, chainTests}
 use Rattle.cipher.specs.Book.{bookOf, Book}
 use Rattle.cipher.specs.Answers.{keyTests, keyLengthSize, keySize, roomTests}
-use Rattle.cipher.specs.declared.size.SizeFound.{SizeFound}
 use Rattle.cipher.specs.declared.size.SizeFound.the-variants.{Found, Unknown}
 use Rattle.cipher.specs.declared.size.KeySize.the-variants.{Bytes16, Bytes24, Bytes32}
 use Rattle.cipher.proofs.CheckLaws.{Numbered}
 use Rattle.cipher.proofs.ChainTests.{chain-tested}
 use Rattle.cipher.proofs.BookLaw.{book-size, book-made}
-use Rattle.book.specs.Answers.{builtInto, buildAnswer}
+use Rattle.book.specs.Answers.{builtInto}
 use Rattle.claims.specs.Built.{Built, bookIn, keyRounds}
 
 -- an answer 0 is no refusal's

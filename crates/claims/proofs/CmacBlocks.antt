@@ -1,23 +1,22 @@
 -- CMAC block by block, as the model session makes it: the padded message's blocks, all but the last enciphered in a chain, the
 -- last one under the key of the message's kind.
 -- Assumes nothing.
-use mathlib.Core.Path.{_≡_, refl, sym, ap, ap₂, _∙_}
-use mathlib.Core.Bool.{Bool, true, false, cond}
+use mathlib.Core.Path.{_≡_, refl, ap, ap₂, _∙_}
+use mathlib.Core.Bool.{true, false, cond}
 use mathlib.Core.List.{List, [], _∷_, _++_, append-nil}
-use Prim.Native.Nat.{ℕ, zero, suc, _+_, _-_, _*_, _/_, _%_, _≤_, _<_}
+use Prim.Native.Nat.{ℕ, zero, suc, _-_, _*_, _/_, _%_, _≤_}
 use native.Mathlib.Decide.{ℕ-discrete}
 use native.Mathlib.Omega.{arith}
 use borrow.Author.Tests.{eq-eqb, ne-eqb}
 use lib.Bits.{bitXor}
-use lib.Dec.{eqb}
 use lib.ListN.{length, getD, take, drop, replicate, length-append, length-drop}
 use lib.Seq.{take-all, take-append-le, drop-append-le}
 use Rattle.lists.specs.Blocks.{zeros, xorBlock, cut, blocks}
 use Rattle.lists.proofs.TabulationLaws.{tab-ext}
 use Rattle.lists.proofs.XorLaws.{xor-assoc}
 use Rattle.lists.proofs.BlockLaws.{xor-at, cut-more}
-use Rattle.cipher.specs.Cmac.{subkey1, subkey2, chained, blocksBefore, lastBlock, cmac}
-use Rattle.pad.specs.Padding.{fillsBlocks, kindOf, tagAdded, paddedForTag}
+use Rattle.cipher.specs.Cmac.{chained, blocksBefore, lastBlock, cmac}
+use Rattle.pad.specs.Padding.{fillsBlocks, kindOf, paddedForTag}
 use Rattle.pad.proofs.PadLaws.{fills-empty, fills-whole, fills-part, tag-blocks}
 use Rattle.claims.specs.Model.{kindKey}
 

@@ -1,11 +1,13 @@
 pub mod BuiltLaws
-pub mod SessionTheorem
+pub mod BookPasses
 pub mod LoneSets
+pub mod ModelCases
+pub mod SessionTheorem
+pub mod RoundsTheorem
+pub mod SealTheorem
 pub mod CmacBlocks
 pub mod RefusedCalls
 pub mod MessageCalls
 pub mod TagTheorem
-pub mod SealTheorem
-pub mod RoundsTheorem
 pub mod PremisesMet
 pub mod Marked

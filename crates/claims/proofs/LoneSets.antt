@@ -2,11 +2,10 @@
 -- Assumes nothing.
 use mathlib.Core.Path.{_≡_}
 use mathlib.Core.List.{List}
-use Prim.Native.Nat.{ℕ, suc, _*_, _≤_}
+use Prim.Native.Nat.{ℕ, suc, _*_}
 use native.Mathlib.Nat.{le-refl}
 use native.Mathlib.Omega.{arith}
-use lib.ListN.{length, drop, length-drop}
-use Rattle.cipher.specs.KeySize.{rounds}
+use lib.ListN.{drop, length-drop}
 use Rattle.cipher.specs.Coding.{setOf, coded, decoded}
 use Rattle.cipher.specs.Chain.{setLength, messageSet, chainSet, Chain, LoneSet}
 use Rattle.cipher.specs.Answers.{keySize}
@@ -26,9 +25,6 @@ module _ (key ch : List ℕ) (v : Chain (keySize key) ch) where
 
   pub pad-coded : coded (setOf (padSet ch)) ≡ coded (messageSet ch)
   pad-coded = coded-agree (setOf (padSet ch)) (messageSet ch) (lone-agree ch)
-
-  pub archive-coded : coded (setOf (archiveSet key ch)) ≡ coded (chainSet ch (keyRounds key))
-  archive-coded = coded-agree (setOf (archiveSet key ch)) (chainSet ch (keyRounds key)) (lone-agree behind)
 
   pub archive-decoded : decoded (setOf (archiveSet key ch)) ≡ decoded (chainSet ch (keyRounds key))
   archive-decoded = decoded-agree (setOf (archiveSet key ch)) (chainSet ch (keyRounds key)) (lone-agree behind)

@@ -1,9 +1,9 @@
 -- The model on the calls of a message: none is refused, and the one tag is the message's CMAC, coded by set r.
 -- Assumes nothing.
-use mathlib.Core.Path.{_≡_, refl, sym, ap, ap₂, _∙_}
+use mathlib.Core.Path.{_≡_, refl, ap, ap₂, _∙_}
 use mathlib.Core.Bool.{false}
 use mathlib.Core.List.{List, [], _∷_, map}
-use Prim.Native.Nat.{ℕ, zero, suc, _+_, _-_, _*_, _/_, _≤_, _<_}
+use Prim.Native.Nat.{ℕ, suc, _+_, _-_, _/_, _≤_, _<_}
 use native.Mathlib.Omega.{arith}
 use lib.ListN.{length, length-map}
 use Rattle.lists.specs.Blocks.{Bytes, zeros, xorBlock, blocks}
@@ -12,11 +12,11 @@ use Rattle.cipher.specs.Cmac.{cmac}
 use Rattle.cipher.specs.Coding.{Set, Permutations, coded, decoded}
 use Rattle.cipher.proofs.CodingLaws.{block-coded, decoded-coded}
 use Rattle.pad.specs.Padding.{paddedForTag, kindOf}
-use Rattle.pad.proofs.PadLaws.{kind-most, tag-blocks, tag-most, tag-bytes}
+use Rattle.pad.proofs.PadLaws.{kind-most, tag-blocks, tag-bytes}
 use Rattle.pad.proofs.CodeLaws.{tag-code-blocks}
-use Rattle.claims.specs.Model.{Call, blockCall, lastCall, Answer, accepted, tag, State, begun, kindKey, blockTaken, tagOf, modelCall}
+use Rattle.claims.specs.Model.{Call, blockCall, lastCall, Answer, State, begun, kindKey, blockTaken, tagOf, modelCall}
 use Rattle.claims.specs.Calls.{run, modelAnswers, callsOf, messageCalls, acceptedCalls, tagsOf}
-use Rattle.claims.proofs.SessionTheorem.{model-block, model-last}
+use Rattle.claims.proofs.ModelCases.{model-block, model-last}
 use Rattle.claims.proofs.CmacBlocks.{macOf, mac-is-cmac}
 
 -- a state that has not finished

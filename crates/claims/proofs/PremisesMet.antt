@@ -1,14 +1,14 @@
 -- The premises of demand 3's theorems can be met: for each key size the identity chain is valid, and with it and every key of that
 -- size a book is built. So none of the theorems is empty.
 -- Assumes nothing.
-use mathlib.Core.Path.{_≡_, refl, sym, ap, _∙_}
+use mathlib.Core.Path.{_≡_, refl, sym, _∙_}
 use mathlib.Core.List.{List, _++_}
-use Prim.Native.Nat.{ℕ, suc, _+_, _-_, _*_, _%_, _≤_, _<_}
+use Prim.Native.Nat.{ℕ, suc, _+_, _*_, _%_, _≤_, _<_}
 use native.Mathlib.Omega.{arith}
 use lib.Dec.{lit<}
 use lib.ListN.{length, getD, drop, replicate, length-append, List·getD-append}
 use lib.Seq.{getD-drop}
-use Rattle.lists.specs.Tabulation.{tab, chunks}
+use Rattle.lists.specs.Tabulation.{chunks}
 use Rattle.lists.proofs.TabulationLaws.{length-tab, getD-tab, getD-replicate}
 use Rattle.lists.proofs.ChunkLaws.{length-chunks, getD-chunks, getD-second}
 use Rattle.cipher.specs.KeySize.{rounds, chainLength, bookLength, sizeOfKey}
@@ -18,7 +18,6 @@ use Rattle.cipher.specs.Chain.{messageSet, chainSet, middleSet, maskIn, Chain}
 use Rattle.cipher.specs.Book.{bookOf}
 use Rattle.cipher.specs.declared.size.KeySize.{KeySize}
 use Rattle.cipher.specs.declared.size.SizeFound.the-variants.{Found}
-use Rattle.book.specs.Answers.{buildAnswer}
 use Rattle.book.proofs.AnswerLaws.{built-done}
 use Rattle.claims.specs.Identity.{identityCodings, identityRound, identityChain}
 use Rattle.claims.specs.Built.{Built}

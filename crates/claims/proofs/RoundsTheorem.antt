@@ -2,7 +2,7 @@
 -- decoded by set n, are the first n rounds of LEA on those bytes decoded by set 0. Said of any rows of round keys and any valid
 -- chain.
 -- Assumes nothing.
-use mathlib.Core.Path.{_≡_, refl, ap, _∙_}
+use mathlib.Core.Path.{_≡_, ap, _∙_}
 use mathlib.Core.List.{List}
 use Prim.Native.Nat.{ℕ, _≤_}
 use lib.ListN.{length}
@@ -19,7 +19,7 @@ use Rattle.driver.specs.Driver.{roundsAnswer}
 use Rattle.driver.proofs.AnswerLaws.{rounds-some}
 use Rattle.claims.specs.Built.{Built, bookIn, keyRounds}
 use Rattle.claims.proofs.BuiltLaws.{built-chain, built-book}
-use Rattle.claims.proofs.SessionTheorem.{book-found}
+use Rattle.claims.proofs.BookPasses.{book-found}
 
 -- n rounds by the book are not refused, and are n rounds of LEA
 abbrev pub RoundsOfLea : List (List ℕ) → List ℕ → List ℕ → ℕ → List ℕ → Type 0

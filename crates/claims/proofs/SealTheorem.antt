@@ -2,16 +2,14 @@
 -- opened with the same key, set r and IV, gives the message and its length; of all refusals only 9 can be given on this way.
 -- Assumes nothing.
 use mathlib.Core.Path.{_≡_, refl, sym, ap, ap₂, _∙_}
-use mathlib.Core.Bool.{Bool, true, false}
+use mathlib.Core.Bool.{true, false}
 use mathlib.Core.List.{List, [], _∷_, _++_, map, flatten}
-use Prim.Native.Nat.{ℕ, suc, _+_, _*_, _/_, _≤_, _<_}
+use Prim.Native.Nat.{ℕ, suc, _+_, _*_, _/_, _≤_}
 use native.Mathlib.Omega.{arith}
 use borrow.Author.Tests.{eq-eqb, le-leb}
 use lib.Bits.{bitXor, xor-comm}
-use lib.Dec.{eqb, leb}
 use lib.ListN.{length, getD, drop, length-map}
 use Rattle.lists.specs.Blocks.{Bytes, Block, xorBlock, blocks}
-use Rattle.lists.specs.Every.{every}
 use Rattle.lists.proofs.TabulationLaws.{tab-ext}
 use Rattle.lists.proofs.EveryLaws.{true-and, all-every}
 use Rattle.lists.proofs.BlockLaws.{Blocks, none, more, block-xor, xor-block-cancel, blocks-flatten, length-flatten, blocks-blocks, flatten-blocks, length-blocks}
@@ -43,7 +41,7 @@ use Rattle.claims.specs.Built.{Built, bookIn, keyRounds, padSet, archive
 use Rattle.claims.specs.Sealing.{codeOf, fileOf, Writes, SealedWay}
 use Rattle.claims.proofs.BuiltLaws.{built-size, built-chain, built-book}
 use Rattle.claims.proofs.LoneSets.{pad-set, archive-set, pad-coded, archive-decoded}
-use Rattle.claims.proofs.SessionTheorem.{last-permutes, book-found, pass-block}
+use Rattle.claims.proofs.BookPasses.{last-permutes, book-found, pass-block}
 
 -- ---- the padding: what the pad appends, the archive takes off
 
@@ -87,7 +85,7 @@ module _ (z : KeySize) (rows : List (List ℕ)) (ch bk : List ℕ) (v : Chain z 
   block-back : (x t : List ℕ) → Block t → xorBlock (D (decoded S (pass bk 0 x (coded U t)))) (decoded S x) ≡ t
   block-back x t ht =
       let X = decoded S x in
-      let hx = block-decoded S (last-permutes z rows ch bk v h) x in
+      let hx = block-decoded S (last-permutes z ch v) x in
       ap (λ (y : List ℕ). xorBlock (D y) X) (pass-block z rows ch bk v h x (coded U t))
       ∙ ap (λ (y : List ℕ). xorBlock y X)
       (rounds-undone rows hr (rounds z) (block-xor X (decoded U (coded U t)) (hx .bytes) (block-decoded U (v .codings .message) (coded U t) .bytes))

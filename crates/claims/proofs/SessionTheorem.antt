@@ -2,75 +2,34 @@
 -- session just begun with the book, are the model's. Said of any rows of round keys and any valid chain.
 -- Assumes nothing.
 use mathlib.Core.Path.{_≡_, refl, sym, ap, ap₂, _∙_}
-use mathlib.Core.Bool.{Bool, true, false, not}
+use mathlib.Core.Bool.{Bool, true, false}
 use mathlib.Core.List.{List, [], _∷_}
 use Prim.Native.Nat.{ℕ, zero, suc, _≤_, _<_}
 use native.Mathlib.Decide.{decLt, ℕ-discrete}
-use native.Mathlib.Nat.{le-refl}
 use native.Mathlib.Omega.{arith}
-use borrow.Author.Tests.{eq-eqb, ne-eqb, le-leb, lt-leb, lt-ltb, le-ltb}
-use lib.Dec.{lit<}
 use lib.ListN.{length}
-use Rattle.lists.specs.Blocks.{zeros, xorBlock}
-use Rattle.lists.specs.Refusals.{first}
-use Rattle.lists.proofs.BlockLaws.{block-xor, xor-block-zeros}
+use Rattle.lists.specs.Blocks.{xorBlock}
 use Rattle.cipher.specs.KeySize.{rounds, sizeOfBook}
 use Rattle.cipher.specs.Schedule.{schedule}
 use Rattle.cipher.specs.Lea.{firstRounds, encipher}
-use Rattle.cipher.specs.Cmac.{subkey1, subkey2}
-use Rattle.cipher.specs.Coding.{Set, Permutations, coded, decoded}
+use Rattle.cipher.specs.Coding.{Set, coded, decoded}
 use Rattle.cipher.specs.Chain.{messageSet, chainSet, Chain}
-use Rattle.cipher.specs.Book.{groupKey, startOf, Book}
+use Rattle.cipher.specs.Book.{groupKey, Book}
 use Rattle.cipher.specs.Answers.{keySize}
 use Rattle.cipher.specs.declared.size.KeySize.{KeySize}
 use Rattle.cipher.specs.declared.size.SizeFound.the-variants.{Found}
-use Rattle.cipher.proofs.KeySizeLaws.{size-of-book}
-use Rattle.cipher.proofs.CodingLaws.{block-decoded, coded-decoded}
-use Rattle.cipher.proofs.BookMeaning.{book-start, book-through}
-use Rattle.driver.specs.Driver.{pass, fresh, moved, closed, beginAnswer, blockAnswer, lastAnswer}
+use Rattle.cipher.proofs.CodingLaws.{coded-decoded}
+use Rattle.cipher.proofs.BookMeaning.{book-start}
+use Rattle.driver.specs.Driver.{pass, beginAnswer, blockAnswer, lastAnswer}
 use Rattle.driver.specs.declared.session.Session.{Session}
-use Rattle.driver.proofs.PassLaws.{rounds-found, block-pass}
+use Rattle.driver.proofs.PassLaws.{block-pass}
 use Rattle.driver.proofs.AnswerLaws.{begin-done, block-7, block-21, block-22, block-done, last-7, last-10, last-21, last-done}
-use Rattle.claims.specs.Model.{Call, blockCall, lastCall, Answer, accepted, tag, refused, State, begun, refusals, kindKey, blockTaken, tagOf, lastTaken, modelCall}
+use Rattle.claims.specs.Model.{Call, blockCall, lastCall, Answer, tag, State, begun, kindKey, blockTaken, tagOf, modelCall}
 use Rattle.claims.specs.Calls.{answerOf, blockTold, lastTold, driverCall, run, driverAnswers, modelAnswers}
 use Rattle.claims.specs.Built.{Built, bookIn, keyRounds}
 use Rattle.claims.proofs.BuiltLaws.{built-chain, built-book}
-
--- ---- the model's answers, case by case
-
-module _ (E : List ℕ → List ℕ) (U S : Set) (m : List ℕ) (x : State) where
-  model-block-7 : (length m ≡ 16 → ⊥) → modelCall E U S (blockCall m) x ≡ (refused 7, x)
-  unfolding modelCall refusals first
-  model-block-7 h = rw (ne-eqb (length m) 16 h)
-
-  model-last-7 : (k : ℕ) → (length m ≡ 16 → ⊥) → modelCall E U S (lastCall m k) x ≡ (refused 7, x)
-  unfolding modelCall refusals first
-  model-last-7 k h = rw (ne-eqb (length m) 16 h)
-
-  module _ (l : length m ≡ 16) where
-    model-block-21 : x .ended ≡ true → modelCall E U S (blockCall m) x ≡ (refused 21, x)
-    unfolding modelCall refusals first
-    model-block-21 d = rw (eq-eqb (length m) 16 l, d)
-
-    model-block-22 : x .ended ≡ false → 65535 ≤ x .taken → modelCall E U S (blockCall m) x ≡ (refused 22, x)
-    unfolding modelCall refusals first
-    model-block-22 d h = rw (eq-eqb (length m) 16 l, d, le-leb 65535 (x .taken) h)
-
-    pub model-block : x .ended ≡ false → x .taken < 65535 → modelCall E U S (blockCall m) x ≡ (accepted, blockTaken E U m x)
-    unfolding modelCall refusals first
-    model-block d h = rw (eq-eqb (length m) 16 l, d, lt-leb 65535 (x .taken) h)
-
-    model-last-10 : (k : ℕ) → 1 < k → modelCall E U S (lastCall m k) x ≡ (refused 10, x)
-    unfolding modelCall refusals first
-    model-last-10 k h = rw (eq-eqb (length m) 16 l, lt-ltb 1 k h)
-
-    model-last-21 : (k : ℕ) → k ≤ 1 → x .ended ≡ true → modelCall E U S (lastCall m k) x ≡ (refused 21, x)
-    unfolding modelCall refusals first
-    model-last-21 k h d = rw (eq-eqb (length m) 16 l, le-ltb 1 k h, d)
-
-    pub model-last : (k : ℕ) → k ≤ 1 → x .ended ≡ false → modelCall E U S (lastCall m k) x ≡ (tag (tagOf E U S m k x), lastTaken x)
-    unfolding modelCall refusals first
-    model-last k h d = rw (eq-eqb (length m) 16 l, le-ltb 1 k h, d)
+use Rattle.claims.proofs.ModelCases.{model-block-7, model-block-21, model-block-22, model-block, model-last-7, model-last-10, model-last-21, model-last}
+use Rattle.claims.proofs.BookPasses.{last-permutes, book-found, pass-decoded, pass-block}
 
 -- the key block of a last call's group is K1 for kind 0, K2 for kind 1
 kind-key : (E : List ℕ → List ℕ) (k : ℕ) → groupKey E (suc k) ≡ kindKey E k
@@ -88,25 +47,8 @@ module _ (z : KeySize) (rows : List (List ℕ)) (ch bk : List ℕ) (v : Chain z 
   abbrev S : Set
   S = chainSet ch (rounds z)
 
-  pub last-permutes : Permutations (chainSet ch (rounds z))
-  last-permutes = v .codings .sets (rounds z) (le-refl (rounds z))
-
-  pub book-found : sizeOfBook (length bk) ≡ Found z
-  book-found = ap sizeOfBook (h .size) ∙ size-of-book z
-
-  -- ---- a fold and all rounds, decoded
-  pass-decoded : (g : ℕ) → g < 3 → (x m : List ℕ)
-      → decoded (chainSet ch (rounds z)) (pass bk g x m)
-      ≡ firstRounds rows (rounds z) (xorBlock (xorBlock (decoded (chainSet ch (rounds z)) x) (decoded (messageSet ch) m)) (groupKey (firstRounds rows (rounds z)) g))
-  unfolding pass
-  pass-decoded g l x m = rw (rounds-found z bk book-found) (book-through z rows ch bk v h g l x m)
-
-  pub pass-block : (x m : List ℕ) → decoded (chainSet ch (rounds z)) (pass bk 0 x m)
-      ≡ firstRounds rows (rounds z) (xorBlock (decoded (chainSet ch (rounds z)) x) (decoded (messageSet ch) m))
-  unfolding groupKey
-  pass-block x m =
-      pass-decoded 0 (lit< tt) x m ∙ ap E (xor-block-zeros (xorBlock (decoded S x) (decoded U m))
-      (block-xor (decoded S x) (decoded U m) (block-decoded S last-permutes x .bytes) (block-decoded U (v .codings .message) m .bytes)))
+  found : sizeOfBook (length bk) ≡ Found z
+  found = book-found z rows ch bk v h
 
   -- ---- a session that is to the driver what a state is to the model
   record Same (d : Session) (x : State) : Type 0 where
@@ -120,8 +62,8 @@ module _ (z : KeySize) (rows : List (List ℕ)) (ch bk : List ℕ) (v : Chain z 
   tag-same : (m : List ℕ) (k : ℕ) (d : Session) (x : State) → Same d x → k ≤ 1 → pass bk (suc k) (d .block) m ≡ tagOf E U S m k x
   unfolding tagOf
   tag-same m k d x s l =
-      sym (coded-decoded S last-permutes (pass bk (suc k) (d .block) m) (block-pass bk (suc k) (d .block) m))
-      ∙ ap (coded S) (pass-decoded (suc k) (omega arith) (d .block) m
+      sym (coded-decoded S (last-permutes z ch v) (pass bk (suc k) (d .block) m) (block-pass bk (suc k) (d .block) m))
+      ∙ ap (coded S) (pass-decoded z rows ch bk v h (suc k) (omega arith) (d .block) m
       ∙ ap₂ (λ (y n : List ℕ). E (xorBlock (xorBlock y (decoded U m)) n)) (s .held) (kind-key E k))
 
   like : {a a' : Answer × Session} {c c' : Answer × State} → a ≡ a' → c ≡ c' → Like a' c' → Like a c
@@ -132,15 +74,15 @@ module _ (z : KeySize) (rows : List (List ℕ)) (ch bk : List ℕ) (v : Chain z 
   block-step m d x s = go (ℕ-discrete (length m) 16) (d .finished) refl (decLt (d .taken) 65535)
     where
       go : Dec (length m ≡ 16) → (b : Bool) → d .finished ≡ b → Dec (d .taken < 65535) → Like (blockTold (blockAnswer bk m d)) (modelCall E U S (blockCall m) x)
-      go (no a) b e t = like (ap blockTold (block-7 bk m d z book-found a)) (model-block-7 E U S m x a) (refl, s)
-      go (yes a) true e t = like (ap blockTold (block-21 bk m d z book-found a e)) (model-block-21 E U S m x a (sym (s .ended) ∙ e)) (refl, s)
+      go (no a) b e t = like (ap blockTold (block-7 bk m d z found a)) (model-block-7 E U S m x a) (refl, s)
+      go (yes a) true e t = like (ap blockTold (block-21 bk m d z found a e)) (model-block-21 E U S m x a (sym (s .ended) ∙ e)) (refl, s)
       go (yes a) false e (no t) =
-          like (ap blockTold (block-22 bk m d z book-found a e (omega arith))) (model-block-22 E U S m x a (sym (s .ended) ∙ e) (omega (arith, s .taken))) (refl, s)
+          like (ap blockTold (block-22 bk m d z found a e (omega arith))) (model-block-22 E U S m x a (sym (s .ended) ∙ e) (omega (arith, s .taken))) (refl, s)
       go (yes a) false e (yes t) =
-          like (ap blockTold (block-done bk m d z book-found a e t)) (model-block E U S m x a (sym (s .ended) ∙ e) (omega (arith, s .taken))) (
+          like (ap blockTold (block-done bk m d z found a e t)) (model-block E U S m x a (sym (s .ended) ∙ e) (omega (arith, s .taken))) (
             refl,
             unfold blockTaken in record {
-              held = pass-block (d .block) m ∙ ap (λ (y : List ℕ). E (xorBlock y (decoded U m))) (s .held);
+              held = pass-block z rows ch bk v h (d .block) m ∙ ap (λ (y : List ℕ). E (xorBlock y (decoded U m))) (s .held);
               taken = ap suc (s .taken);
               ended = s .ended;
             },
@@ -151,12 +93,12 @@ module _ (z : KeySize) (rows : List (List ℕ)) (ch bk : List ℕ) (v : Chain z 
   last-step m k d x s = go (ℕ-discrete (length m) 16) (decLt 1 k) (d .finished) refl
     where
       go : Dec (length m ≡ 16) → Dec (1 < k) → (b : Bool) → d .finished ≡ b → Like (lastTold (lastAnswer bk m k d)) (modelCall E U S (lastCall m k) x)
-      go (no a) t b e = like (ap lastTold (last-7 bk m k d z book-found a)) (model-last-7 E U S m x k a) (refl, s)
-      go (yes a) (yes t) b e = like (ap lastTold (last-10 bk m k d z book-found a t)) (model-last-10 E U S m x a k t) (refl, s)
+      go (no a) t b e = like (ap lastTold (last-7 bk m k d z found a)) (model-last-7 E U S m x k a) (refl, s)
+      go (yes a) (yes t) b e = like (ap lastTold (last-10 bk m k d z found a t)) (model-last-10 E U S m x a k t) (refl, s)
       go (yes a) (no t) true e =
-          like (ap lastTold (last-21 bk m k d z book-found a (omega arith) e)) (model-last-21 E U S m x a k (omega arith) (sym (s .ended) ∙ e)) (refl, s)
+          like (ap lastTold (last-21 bk m k d z found a (omega arith) e)) (model-last-21 E U S m x a k (omega arith) (sym (s .ended) ∙ e)) (refl, s)
       go (yes a) (no t) false e =
-          like (ap lastTold (last-done bk m k d z book-found a (omega arith) e)) (model-last E U S m x a k (omega arith) (sym (s .ended) ∙ e))
+          like (ap lastTold (last-done bk m k d z found a (omega arith) e)) (model-last E U S m x a k (omega arith) (sym (s .ended) ∙ e))
           (ap {B = Answer} tag (tag-same m k d x s (omega arith)), record { held = s .held; taken = s .taken; ended = refl })
 
   step : (c : Call) (d : Session) (x : State) → Same d x → Like (driverCall bk c d) (modelCall E U S c x)
@@ -164,7 +106,7 @@ module _ (z : KeySize) (rows : List (List ℕ)) (ch bk : List ℕ) (v : Chain z 
   step (lastCall m k) d x s = last-step m k d x s
 
   same-begun : Same ((beginAnswer bk) .1) begun
-  same-begun = rw (begin-done bk z book-found) (record { held = book-start z rows ch bk v h; taken = refl; ended = refl })
+  same-begun = rw (begin-done bk z found) (record { held = book-start z rows ch bk v h; taken = refl; ended = refl })
 
   runs : (cs : List Call) (d : Session) (x : State) → Same d x → run (driverCall bk) cs d ≡ run (modelCall E U S) cs x
   unfolding run

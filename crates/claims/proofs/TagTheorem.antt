@@ -2,10 +2,10 @@
 -- the message's coded blocks and kind, in order, are what the driver accepts, there is exactly one tag among the answers; checking
 -- says Valid to it and Invalid to every other 16 bytes. And the plain list of the message's calls is one such list.
 -- Assumes nothing.
-use mathlib.Core.Path.{_≡_, refl, sym, ap, ap₂, _∙_}
+use mathlib.Core.Path.{_≡_, refl, sym, ap, _∙_}
 use mathlib.Core.Bool.{Bool, true, false, cond}
-use mathlib.Core.List.{List, [], _∷_, _++_, map, flatten}
-use Prim.Native.Nat.{ℕ, _+_, _-_, _*_, _/_, _≤_, _<_}
+use mathlib.Core.List.{List, map, flatten}
+use Prim.Native.Nat.{ℕ, _+_, _-_, _/_, _≤_, _<_}
 use native.Mathlib.Decide.{decLt}
 use native.Mathlib.Omega.{arith}
 use lib.ListN.{length, take, drop}
@@ -27,15 +27,16 @@ use Rattle.archive.specs.Archive.{sameBlock, checkAnswer}
 use Rattle.archive.proofs.CheckLaws.{same-true, true-same}
 use Rattle.archive.proofs.MacLaws.{block-cmac}
 use Rattle.archive.proofs.AnswerLaws.{check-done}
-use Rattle.claims.specs.Model.{Call, Answer, begun, modelCall}
-use Rattle.claims.specs.Calls.{run, driverAnswers, modelAnswers, callsOf, messageCalls, acceptedCalls, tagsOf}
+use Rattle.claims.specs.Model.{Call, begun}
+use Rattle.claims.specs.Calls.{driverAnswers, modelAnswers, callsOf, messageCalls, acceptedCalls, tagsOf}
 use Rattle.claims.specs.Built.{Built, bookIn, keyRounds, padSet, archiveSet}
 use Rattle.claims.specs.Tags.{OneTag}
-use Rattle.claims.proofs.BuiltLaws.{built-size, built-chain, built-book}
+use Rattle.claims.proofs.BuiltLaws.{built-size, built-chain}
 use Rattle.claims.proofs.LoneSets.{pad-set, archive-set, pad-coded, archive-decoded}
 use Rattle.claims.proofs.RefusedCalls.{model-tags}
 use Rattle.claims.proofs.MessageCalls.{message-tag, message-taken}
-use Rattle.claims.proofs.SessionTheorem.{last-permutes, session-built}
+use Rattle.claims.proofs.BookPasses.{last-permutes}
+use Rattle.claims.proofs.SessionTheorem.{session-built}
 
 module _ (key ch out held : List ℕ) (built : Built key ch out held) (m : List ℕ) (hm : Bytes m) (most : length m ≤ 1048575) where
   abbrev E : List ℕ → List ℕ
@@ -86,7 +87,7 @@ module _ (key ch out held : List ℕ) (built : Built key ch out held) (m : List 
   -- ---- checking
 
   permutes : Permutations (chainSet ch (keyRounds key))
-  permutes = last-permutes (keySize key) (schedule (keySize key) key) ch book valid-chain (built-book key ch out held built)
+  permutes = last-permutes (keySize key) ch valid-chain
 
   block-mac : Block (cmac (encipher (keySize key) key) m)
   block-mac = block-cmac (schedule (keySize key) key) (keyRounds key) m
