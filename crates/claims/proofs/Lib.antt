@@ -4,10 +4,13 @@ pub mod LoneSets
 pub mod ModelCases
 pub mod SessionTheorem
 pub mod RoundsTheorem
+pub mod SealedText
 pub mod SealTheorem
 pub mod CmacBlocks
 pub mod RefusedCalls
 pub mod MessageCalls
+pub mod PadCalls
 pub mod TagTheorem
 pub mod PremisesMet
 pub mod Marked
+pub mod Demand3Theorem

@@ -8,23 +8,17 @@ use Prim.Native.Nat.{ℕ, _≤_}
 use lib.ListN.{length}
 use Rattle.cipher.specs.KeySize.{rounds}
 use Rattle.cipher.specs.Schedule.{schedule}
-use Rattle.cipher.specs.Lea.{firstRounds}
 use Rattle.cipher.specs.Coding.{decoded}
 use Rattle.cipher.specs.Chain.{chainSet, Chain}
 use Rattle.cipher.specs.Book.{Book}
 use Rattle.cipher.specs.Answers.{keySize}
 use Rattle.cipher.specs.declared.size.KeySize.{KeySize}
 use Rattle.cipher.proofs.BookMeaning.{book-rounds}
-use Rattle.driver.specs.Driver.{roundsAnswer}
 use Rattle.driver.proofs.AnswerLaws.{rounds-some}
 use Rattle.claims.specs.Built.{Built, bookIn, keyRounds}
+use Rattle.claims.specs.Demand3.{RoundsOfLea}
 use Rattle.claims.proofs.BuiltLaws.{built-chain, built-book}
 use Rattle.claims.proofs.BookPasses.{book-found}
-
--- n rounds by the book are not refused, and are n rounds of LEA
-abbrev pub RoundsOfLea : List (List ℕ) → List ℕ → List ℕ → ℕ → List ℕ → Type 0
-RoundsOfLea rows ch bk n b =
-    ((roundsAnswer bk n b) .0 ≡ 0) × (decoded (chainSet ch n) ((roundsAnswer bk n b) .1) ≡ firstRounds rows n (decoded (chainSet ch 0) b))
 
 pub after-rounds : (z : KeySize) (rows : List (List ℕ)) (ch bk : List ℕ) → Chain z ch → Book (rounds z) rows ch bk
     → (b : List ℕ) → length b ≡ 16 → (n : ℕ) → 1 ≤ n → n ≤ rounds z → RoundsOfLea rows ch bk n b

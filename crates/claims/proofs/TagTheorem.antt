@@ -5,11 +5,8 @@
 use mathlib.Core.Path.{_≡_, refl, sym, ap, _∙_}
 use mathlib.Core.Bool.{Bool, true, false, cond}
 use mathlib.Core.List.{List, map, flatten}
-use Prim.Native.Nat.{ℕ, _+_, _-_, _/_, _≤_, _<_}
-use native.Mathlib.Decide.{decLt}
-use native.Mathlib.Omega.{arith}
-use lib.ListN.{length, take, drop}
-use lib.Seq.{take-at}
+use Prim.Native.Nat.{ℕ, _≤_}
+use lib.ListN.{length}
 use Rattle.lists.specs.Blocks.{Bytes, Block, blocks}
 use Rattle.cipher.specs.Schedule.{schedule}
 use Rattle.cipher.specs.Lea.{encipher}
@@ -19,10 +16,6 @@ use Rattle.cipher.specs.Chain.{messageSet, chainSet, Chain}
 use Rattle.cipher.specs.Answers.{keySize}
 use Rattle.cipher.proofs.CodingLaws.{block-coded, block-decoded, decoded-coded, coded-decoded}
 use Rattle.pad.specs.Padding.{paddedForTag, kindOf, codedText}
-use Rattle.pad.specs.Answers.{tagAnswer}
-use Rattle.pad.proofs.PadLaws.{tag-blocks}
-use Rattle.pad.proofs.TextLaws.{length-coded}
-use Rattle.pad.proofs.AnswerLaws.{tag-short, tag-coded}
 use Rattle.archive.specs.Archive.{sameBlock, checkAnswer}
 use Rattle.archive.proofs.CheckLaws.{same-true, true-same}
 use Rattle.archive.proofs.MacLaws.{block-cmac}
@@ -32,7 +25,7 @@ use Rattle.claims.specs.Calls.{driverAnswers, modelAnswers, callsOf, mes
 use Rattle.claims.specs.Built.{Built, bookIn, keyRounds, padSet, archiveSet}
 use Rattle.claims.specs.Tags.{OneTag}
 use Rattle.claims.proofs.BuiltLaws.{built-size, built-chain}
-use Rattle.claims.proofs.LoneSets.{pad-set, archive-set, pad-coded, archive-decoded}
+use Rattle.claims.proofs.LoneSets.{archive-set, pad-coded, archive-decoded}
 use Rattle.claims.proofs.RefusedCalls.{model-tags}
 use Rattle.claims.proofs.MessageCalls.{message-tag, message-taken}
 use Rattle.claims.proofs.BookPasses.{last-permutes}
@@ -55,22 +48,6 @@ module _ (key ch out held : List ℕ) (built : Built key ch out held) (m : List 
   valid-chain = built-chain key ch out held built
 
   -- ---- the message's calls
-
-  -- what the pad answers for a tag are these calls' blocks and kind
-  pub pad-calls : (o o' : List ℕ) (n k : ℕ) → tagAnswer (padSet ch) m o ≡ ((0, (n, k)), o') → callsOf k (blocks (take n o')) ≡ messageCalls (setOf (padSet ch)) m
-  unfolding messageCalls
-  pad-calls o o' n k e = go (decLt (length o) (length (paddedForTag m)))
-    where
-      go : Dec (length o < length (paddedForTag m)) → callsOf k (blocks (take n o')) ≡ callsOf (kindOf (length m)) (blocks (codedText (setOf (padSet ch)) (paddedForTag m)))
-      go (yes a) =
-          let w : _≡_ {A = ℕ} 9 0 = ap (λ (r : (ℕ × (ℕ × ℕ)) × List ℕ). r .0 .0) (sym (tag-short (padSet ch) m o (pad-set key ch valid-chain) most a) ∙ e) in
-          absurd (omega arith)
-      go (no a) =
-          ap (λ (r : (ℕ × (ℕ × ℕ)) × List ℕ). callsOf (r .0 .1 .1) (blocks (take (r .0 .1 .0) (r .1))))
-          (sym e ∙ tag-coded (padSet ch) m o (pad-set key ch valid-chain) most (omega arith))
-          ∙ ap (λ (t : List ℕ). callsOf (kindOf (length m)) (blocks t))
-          (take-at (codedText (setOf (padSet ch)) (paddedForTag m)) (drop (length (paddedForTag m)) o) (length (paddedForTag m))
-          (length-coded (setOf (padSet ch)) (pad-set key ch valid-chain .codings) (paddedForTag m) ((length m - 1) / 16 + 1) (tag-blocks m)))
 
   same-calls : calls ≡ messageCalls (messageSet ch) m
   unfolding messageCalls codedText

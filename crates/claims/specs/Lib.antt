@@ -4,3 +4,4 @@ pub mod Built
 pub mod Sealing
 pub mod Tags
 pub mod Identity
+pub mod Demand3
