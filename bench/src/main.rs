@@ -1,5 +1,6 @@
 //! Times the proved library and the reference in one process and prints how they compare.
 
+mod archive;
 mod driver;
 mod packed;
 
@@ -209,4 +210,5 @@ fn main() {
         codes(n);
     }
     driver::all();
+    archive::all();
 }
