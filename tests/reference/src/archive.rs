@@ -2,7 +2,7 @@
 //! tags.
 
 use crate::book::double;
-use crate::lea::{self, backward, forward, state, Block, Row, State};
+use crate::lea::{self, deciphered, enciphered, state, Block, Row, State};
 use crate::{chain, driver, pad, refusal};
 
 /// A sealed file opened from its IV, to the front of out: the length of the message. The last block
@@ -22,20 +22,60 @@ pub fn open(
         return Err(refusal::MESSAGE_LENGTH);
     }
     let room = out.get_mut(..n).ok_or(refusal::SHORT_OUTPUT)?;
-    let (rows, plain) = (&rows[..size.rounds()], chain::preimages(set));
+    let keys = Keys {
+        rows: &rows[..size.rounds()],
+        plain: chain::preimages(set),
+    };
     let (front, last) = sealed.split_at(n - 16);
+    let (whole, end) = room.split_at_mut(n - 16);
+    let mut text = [0; 16];
     let before = front.rchunks_exact(16).next().unwrap_or(iv);
-    let end = backward(rows, decoded(&plain, last));
-    let end = lea::block(xor(end, decoded(&plain, before)));
-    let rest = 16 - padding(&end)?;
-    let mut before = decoded(&plain, iv);
-    for (coded, place) in front.chunks_exact(16).zip(room.chunks_exact_mut(16)) {
-        let text = decoded(&plain, coded);
-        place.copy_from_slice(&lea::block(xor(backward(rows, text), before)));
-        before = text;
-    }
-    room[n - 16..][..rest].copy_from_slice(&end[..rest]);
+    keys.open::<1>(keys.decoded(before), last, &mut text);
+    let rest = 16 - padding(&text)?;
+    keys.open_all(iv, front, whole);
+    end[..rest].copy_from_slice(&text[..rest]);
     Ok(n - 16 + rest)
+}
+
+/// The round keys, and what each byte decodes to in each place of a block.
+struct Keys<'a> {
+    rows: &'a [Row],
+    plain: [[u8; 256]; 16],
+}
+
+impl Keys<'_> {
+    /// The words of a block decoded.
+    #[inline]
+    fn decoded(&self, coded: &[u8]) -> State {
+        let coded: &Block = coded.try_into().unwrap();
+        let byte = |k: usize| self.plain[k][usize::from(coded[k])];
+        std::array::from_fn(|w| u32::from_le_bytes(std::array::from_fn(|k| byte(4 * w + k))))
+    }
+
+    /// N blocks opened, given the decoded block before them: the last of them decoded.
+    #[inline]
+    fn open<const N: usize>(&self, mut before: State, coded: &[u8], room: &mut [u8]) -> State {
+        let text: [State; N] = std::array::from_fn(|i| self.decoded(&coded[16 * i..][..16]));
+        let opened = deciphered(self.rows, text);
+        for (i, place) in room.chunks_exact_mut(16).enumerate() {
+            place.copy_from_slice(&lea::block(xor(opened[i], before)));
+            before = text[i];
+        }
+        before
+    }
+
+    /// All blocks opened, four at a time while there are so many.
+    fn open_all(&self, iv: &Block, coded: &[u8], room: &mut [u8]) {
+        let mut before = self.decoded(iv);
+        let (fours, ones) = coded.split_at(coded.len() - coded.len() % 64);
+        let (places, rest) = room.split_at_mut(fours.len());
+        for (four, place) in fours.chunks_exact(64).zip(places.chunks_exact_mut(64)) {
+            before = self.open::<4>(before, four, place);
+        }
+        for (one, place) in ones.chunks_exact(16).zip(rest.chunks_exact_mut(16)) {
+            before = self.open::<1>(before, one, place);
+        }
+    }
 }
 
 /// Whether a tag, coded by set r, is that of a message.
@@ -49,14 +89,6 @@ pub fn check(key: &[u8], set: &[u8], message: &[u8], tag: &[u8]) -> Result<bool,
     }
     let due = cmac(&rows[..size.rounds()], message);
     Ok(chain::decode(set, tag) == due)
-}
-
-/// The words of a block decoded byte by byte.
-#[inline]
-fn decoded(plain: &[[u8; 256]; 16], coded: &[u8]) -> State {
-    let coded: &Block = coded.try_into().unwrap();
-    let byte = |k: usize| plain[k][usize::from(coded[k])];
-    std::array::from_fn(|w| u32::from_le_bytes(std::array::from_fn(|k| byte(4 * w + k))))
 }
 
 #[inline]
@@ -74,7 +106,7 @@ fn padding(end: &Block) -> Result<usize, u32> {
 /// CMAC (SP 800-38B): the last block, filled up by hex 80 and zeros where it is not whole, is xored
 /// with K1 where it is and with K2 where it is not.
 fn cmac(rows: &[Row], message: &[u8]) -> Block {
-    let first = double(lea::block(forward(rows, [0; 4])));
+    let first = double(lea::block(enciphered(rows, [0; 4])));
     let cut = message.len().saturating_sub(1) / 16 * 16;
     let (front, rest) = message.split_at(cut);
     let (mut last, mut subkey) = ([0; 16], first);
@@ -84,8 +116,8 @@ fn cmac(rows: &[Row], message: &[u8]) -> Block {
     }
     let mut x = [0; 4];
     for text in front.chunks_exact(16) {
-        x = forward(rows, xor(x, state(text.try_into().unwrap())));
+        x = enciphered(rows, xor(x, state(text.try_into().unwrap())));
     }
     let folded = xor(xor(x, state(&last)), state(&subkey));
-    lea::block(forward(rows, folded))
+    lea::block(enciphered(rows, folded))
 }

@@ -148,7 +148,7 @@ pub fn build(key: &[u8], chain: &[u8], out: &mut [u8]) -> Result<(), u32> {
     let (start, rest) = room(out, size.book_bytes())?.split_at_mut(START);
     let (folds, rounds) = rest.split_at_mut(3 * GROUP);
     start.copy_from_slice(&chain::code(chain.set(size.rounds()), &[0; 16]));
-    let zero = lea::block(lea::forward(&rows[..size.rounds()], [0; 4]));
+    let zero = lea::block(lea::enciphered(&rows[..size.rounds()], [0; 4]));
     groups(chain, [[0; 16], double(zero), double(double(zero))], folds);
     for (l, tables) in rounds.chunks_exact_mut(ROUND).enumerate() {
         Round::new(chain, &rows[l], l).tables(tables);

@@ -145,27 +145,27 @@ fn round(k: &Row, a: u32, b: &mut u32, c: &mut u32, d: &mut u32) {
     *b = (a ^ k[0]).wrapping_add(*b ^ k[1]).rotate_left(9);
 }
 
-/// The same round undone: new words in b, c, d, a, old ones in a, b, c, d.
+/// The same round undone, of N blocks side by side: new words in b, c, d, a, old ones in a, b, c, d.
 #[inline(always)]
-fn undo(k: &Row, a: u32, b: &mut u32, c: &mut u32, d: &mut u32) {
-    *b = b.rotate_right(9).wrapping_sub(a ^ k[0]) ^ k[1];
-    *c = c.rotate_left(5).wrapping_sub(*b ^ k[2]) ^ k[3];
-    *d = d.rotate_left(3).wrapping_sub(*c ^ k[4]) ^ k[5];
+fn undo<const N: usize>(
+    k: &Row,
+    a: &[u32; N],
+    b: &mut [u32; N],
+    c: &mut [u32; N],
+    d: &mut [u32; N],
+) {
+    for n in 0..N {
+        b[n] = b[n].rotate_right(9).wrapping_sub(a[n] ^ k[0]) ^ k[1];
+        c[n] = c[n].rotate_left(5).wrapping_sub(b[n] ^ k[2]) ^ k[3];
+        d[n] = d[n].rotate_left(3).wrapping_sub(c[n] ^ k[4]) ^ k[5];
+    }
 }
 
-/// A block taken through a round for each of these rows; after four rounds no word has moved.
+/// A block taken through the rounds of these rows.
 #[inline]
 pub fn forward(rows: &[Row], x: State) -> State {
     let [mut a, mut b, mut c, mut d] = x;
-    let fours = rows.chunks_exact(4);
-    let rest = fours.remainder();
-    for k in fours {
-        round(&k[0], a, &mut b, &mut c, &mut d);
-        round(&k[1], b, &mut c, &mut d, &mut a);
-        round(&k[2], c, &mut d, &mut a, &mut b);
-        round(&k[3], d, &mut a, &mut b, &mut c);
-    }
-    for k in rest {
+    for k in rows {
         round(k, a, &mut b, &mut c, &mut d);
         [a, b, c, d] = [b, c, d, a];
     }
@@ -175,20 +175,39 @@ pub fn forward(rows: &[Row], x: State) -> State {
 /// The rounds of these rows undone, the last first.
 #[inline]
 pub fn backward(rows: &[Row], x: State) -> State {
-    let [mut a, mut b, mut c, mut d] = x;
-    let fours = rows.rchunks_exact(4);
-    let rest = fours.remainder();
-    for k in fours {
-        undo(&k[3], d, &mut a, &mut b, &mut c);
-        undo(&k[2], c, &mut d, &mut a, &mut b);
-        undo(&k[1], b, &mut c, &mut d, &mut a);
-        undo(&k[0], a, &mut b, &mut c, &mut d);
-    }
-    for k in rest.iter().rev() {
+    let [mut a, mut b, mut c, mut d] = x.map(|word| [word]);
+    for k in rows.iter().rev() {
         [a, b, c, d] = [d, a, b, c];
-        undo(k, a, &mut b, &mut c, &mut d);
+        undo(k, &a, &mut b, &mut c, &mut d);
+    }
+    [a[0], b[0], c[0], d[0]]
+}
+
+/// A block enciphered by all rows of a schedule, four at a time: after four no word has moved.
+#[inline(always)]
+pub fn enciphered(rows: &[Row], x: State) -> State {
+    let [mut a, mut b, mut c, mut d] = x;
+    for k in rows.chunks_exact(4) {
+        round(&k[0], a, &mut b, &mut c, &mut d);
+        round(&k[1], b, &mut c, &mut d, &mut a);
+        round(&k[2], c, &mut d, &mut a, &mut b);
+        round(&k[3], d, &mut a, &mut b, &mut c);
     }
     [a, b, c, d]
+}
+
+/// N blocks deciphered by all rows of a schedule side by side, so that wide registers may be used.
+#[inline(always)]
+pub fn deciphered<const N: usize>(rows: &[Row], x: [State; N]) -> [State; N] {
+    let words = |w: usize| -> [u32; N] { std::array::from_fn(|n| x[n][w]) };
+    let (mut a, mut b, mut c, mut d) = (words(0), words(1), words(2), words(3));
+    for k in rows.rchunks_exact(4) {
+        undo(&k[3], &d, &mut a, &mut b, &mut c);
+        undo(&k[2], &c, &mut d, &mut a, &mut b);
+        undo(&k[1], &b, &mut c, &mut d, &mut a);
+        undo(&k[0], &a, &mut b, &mut c, &mut d);
+    }
+    std::array::from_fn(|n| [a[n], b[n], c[n], d[n]])
 }
 
 /// A block given as bytes; refuses all but 16 of them.
@@ -200,7 +219,10 @@ pub fn whole(bytes: &[u8]) -> Result<&Block, u32> {
 /// A block enciphered.
 #[inline]
 pub fn encipher(key: &[u8], text: &[u8]) -> Result<Block, u32> {
-    first_rounds(key, usize::MAX, text)
+    let mut rows = EMPTY;
+    let size = schedule(key, &mut rows)?;
+    let x = state(whole(text)?);
+    Ok(block(enciphered(&rows[..size.rounds()], x)))
 }
 
 /// A block deciphered.
@@ -209,7 +231,8 @@ pub fn decipher(key: &[u8], text: &[u8]) -> Result<Block, u32> {
     let mut rows = EMPTY;
     let size = schedule(key, &mut rows)?;
     let x = state(whole(text)?);
-    Ok(block(backward(&rows[..size.rounds()], x)))
+    let [x] = deciphered(&rows[..size.rounds()], [x]);
+    Ok(block(x))
 }
 
 /// A block after the first rounds, all of them where the count is more.
@@ -238,7 +261,7 @@ pub fn chain(key: &[u8], text: &[u8]) -> Result<Block, u32> {
     let mut x = [0; 4];
     for whole in text.chunks_exact(16) {
         let m = state(whole.try_into().unwrap());
-        x = forward(rows, std::array::from_fn(|i| x[i] ^ m[i]));
+        x = enciphered(rows, std::array::from_fn(|i| x[i] ^ m[i]));
     }
     Ok(block(x))
 }
