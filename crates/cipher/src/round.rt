@@ -19,15 +19,18 @@ fn unkeyed(s: u32, x: u32, k: u32, l: u32) -> u32
     std::num::wrapping_sub_u32(s, x ^ k) ^ l
 }
 
+// A round. Its words are made from the last to the first, each then at the place of a word that is
+// not needed any more.
 pub fn round(k: [u32; 6], x: [u32; 4]) -> [u32; 4]
     ensures { λ r. ⌜ r ≡ L.round k x ⌝ }
 {
-    let a = rotate_left(keyed(x[0], k[0], x[1], k[1]), 9);
-    let b = rotate_right(keyed(x[1], k[2], x[2], k[3]), 5);
     let c = rotate_right(keyed(x[2], k[4], x[3], k[5]), 3);
+    let b = rotate_right(keyed(x[1], k[2], x[2], k[3]), 5);
+    let a = rotate_left(keyed(x[0], k[0], x[1], k[1]), 9);
     [a, b, c, x[0]]
 }
 
+// The same undone.
 pub fn unround(k: [u32; 6], y: [u32; 4]) -> [u32; 4]
     ensures { λ r. ⌜ r ≡ L.unround k y ⌝ }
 {
@@ -45,7 +48,7 @@ pub fn four_rounds(k: [u32; 6], l: [u32; 6], m: [u32; 6], n: [u32; 6], x: [u32; 
     round(n, round(m, round(l, round(k, x))))
 }
 
-// The same undone.
+// Four rounds undone.
 pub fn four_unrounds(k: [u32; 6], l: [u32; 6], m: [u32; 6], n: [u32; 6], y: [u32; 4]) -> [u32; 4]
     ensures { λ r. ⌜ r ≡ L.unround k (L.unround l (L.unround m (L.unround n y))) ⌝ }
 {

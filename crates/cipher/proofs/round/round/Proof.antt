@@ -11,12 +11,12 @@ use Rattle.cipher.proofs.round.round.Tie as tie
 returns : tie.Need-returns
 unfolding round
 returns c =
-    let a = c .before .before .before .before in
     let b = c .before .before in
-    let x = a .before .before .args .t2 in
-    let ea = a .rotate-left .ensures ∙ ap (rol 9) (a .before .keyed .ensures) in
-    let eb = b .rotate-right .ensures ∙ ap (ror 5) (b .before .keyed2 .ensures) in
-    let ec = c .rotate-right2 .ensures ∙ ap (ror 3) (c .before .keyed3 .ensures) in
+    let d = b .before .before in
+    let x = d .before .before .args .t2 in
+    let ea = c .rotate-left .ensures ∙ ap (rol 9) (c .before .keyed3 .ensures) in
+    let eb = b .rotate-right2 .ensures ∙ ap (ror 5) (b .before .keyed2 .ensures) in
+    let ec = d .rotate-right .ensures ∙ ap (ror 3) (d .before .keyed .ensures) in
     λ i.
     ea i ∷ eb i ∷ ec i ∷ getD x 0 0 ∷ []
 
