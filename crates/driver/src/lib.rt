@@ -1,10 +1,10 @@
 // The driver (document 01, "Pad, driver, archive"): rounds from the tables of a book, sealing, and
 // the tag session. It has no key, no coding and no builder.
-pub mod entry;
-pub mod fold;
-pub mod round;
+mod entry;
+mod fold;
+mod round;
 pub mod run;
 pub mod seal;
 pub mod session;
-pub mod sums;
-pub mod turns;
+mod sums;
+mod turns;
