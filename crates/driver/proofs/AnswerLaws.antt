@@ -23,7 +23,7 @@ use Rattle.cipher.specs.declared.size.KeySize.the-variants.{Bytes16, Bytes24, B
 use Rattle.cipher.specs.declared.size.SizeFound.the-variants.{Found, Unknown}
 use Rattle.cipher.proofs.KeySizeLaws.{found-length, none-of, one-of}
 use Rattle.cipher.proofs.AnswerLaws.{at-most, at-most-all, block-refused, block-taken, text-known, text-refused, text-taken, room-refused, room-taken}
-use Rattle.driver.specs.Driver.{bookTests, tablesTests, roundsOf, roundAnswer, roundsAnswer, pass, chainFrom, sealed, sealAnswer, fresh, spent, moved, closed, beginAnswer, kindTests, finishedTests, fullTests, blockAnswer, lastAnswer}
+use Rattle.driver.specs.Driver.{bookTests, tablesTests, roundsOf, roundAnswer, roundsAnswer, pass, chainFrom, sealed, sealAnswer, fresh, spent, moved, closed, begunOver, beginAnswer, kindTests, finishedTests, fullTests, blockAnswer, lastAnswer}
 use Rattle.driver.specs.declared.session.Session.{Session}
 use Rattle.driver.proofs.PassLaws.{rounds-found}
 
@@ -142,13 +142,21 @@ module _ (bk iv cs out : List ℕ) where
 
 -- ---- beginning
 
+pub over-6 : (bk : List ℕ) (s : Session) → sizeOfBook (length bk) ≡ Unknown → begunOver bk s ≡ (6, s)
+unfolding begunOver
+over-6 bk s e = book-refused bk [] (λ q. (q, s)) (0, fresh (startOf bk)) e
+
+pub over-done : (bk : List ℕ) (s : Session) (z : KeySize) → sizeOfBook (length bk) ≡ Found z → begunOver bk s ≡ (0, fresh (startOf bk))
+unfolding begunOver first
+over-done bk s z e = book-taken bk [] (λ q. (q, s)) (0, fresh (startOf bk)) z e
+
 pub begin-6 : (bk : List ℕ) → sizeOfBook (length bk) ≡ Unknown → beginAnswer bk ≡ (6, spent)
 unfolding beginAnswer
-begin-6 bk e = book-refused bk [] (λ q. (q, spent)) (0, fresh (startOf bk)) e
+begin-6 bk e = over-6 bk spent e
 
 pub begin-done : (bk : List ℕ) (z : KeySize) → sizeOfBook (length bk) ≡ Found z → beginAnswer bk ≡ (0, fresh (startOf bk))
-unfolding beginAnswer first
-begin-done bk z e = book-taken bk [] (λ q. (q, spent)) (0, fresh (startOf bk)) z e
+unfolding beginAnswer
+begin-done bk z e = over-done bk spent z e
 
 -- ---- a block call
 

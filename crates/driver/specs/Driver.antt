@@ -12,7 +12,7 @@ use Rattle.cipher.specs.Tables.{tableRound, tableRounds, tableFold}
 use Rattle.cipher.specs.Book.{roundsStart, roundLength, startOf, groupAt, roundAt}
 use Rattle.cipher.specs.KeySize.{bookLength}
 use Rattle.cipher.specs.Refusal.{outcomeOf}
-use Rattle.cipher.specs.Answers.{blockTests, textTests, roomTests}
+use Rattle.cipher.specs.Answers.{blockTold, blockTests, textTests, roomTests}
 use Rattle.cipher.specs.declared.size.KeySize.the-variants.{Bytes16, Bytes24, Bytes32}
 use Rattle.driver.specs.declared.session.Session.{Session}
 use Rattle.driver.specs.declared.session.SessionAnswer.{SessionAnswer}
@@ -84,11 +84,15 @@ abbrev pub sessionTold : SessionAnswer → ℕ × Session
 sessionTold a = (outcomeOf (a .outcome), a .session)
 
 abbrev pub tagTold : TagAnswer → (ℕ × List ℕ) × Session
-tagTold a = ((outcomeOf (a .outcome), a .tag), a .session)
+tagTold a = (blockTold (a .answer), a .session)
 
--- beginning: a fresh session that holds the book's start
+-- beginning in place of a session s, which a refusal leaves: a fresh session that holds the book's start
+unfoldable pub begunOver : List ℕ → Session → ℕ × Session
+begunOver bk s = first (bookTests bk) (λ q. (q, s)) (0, fresh (startOf bk))
+
+-- beginning where there is none
 unfoldable pub beginAnswer : List ℕ → ℕ × Session
-beginAnswer bk = first (bookTests bk) (λ q. (q, spent)) (0, fresh (startOf bk))
+beginAnswer bk = begunOver bk spent
 
 -- refusal 10: a kind (01's term) that is neither 0 nor 1. Refusal 21: a call on a finished session. Refusal 22: a block call
 -- on one that has taken 65,535 of them

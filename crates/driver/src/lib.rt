@@ -2,6 +2,7 @@
 // the tag session. It has no key, no coding and no builder.
 mod entry;
 mod fold;
+pub mod lent;
 mod round;
 pub mod run;
 pub mod seal;

@@ -7,6 +7,8 @@ ghost use Rattle.lists.specs.Blocks.{zeros};
 ghost use Rattle.driver.specs.Driver as D;
 use crate::fold::pass;
 use cipher::block::block_at;
+use cipher::lea::BlockAnswer;
+use cipher::lea::refused;
 use cipher::refusal::Outcome;
 use cipher::refusal::Refusal;
 use cipher::size::KeySize;
@@ -25,27 +27,28 @@ pub struct SessionAnswer {
     pub session: Session,
 }
 
-// What a last call gives: a tag, or the refusal and zeros.
+// What a last call gives: a tag, or the refusal and zeros, and the session.
 pub struct TagAnswer {
-    pub outcome: Outcome,
-    pub tag: [u8; 16],
+    pub answer: BlockAnswer,
     pub session: Session,
 }
 
-// A fresh session on a book. Where the book is refused (6) there is none, and what is handed back
-// is a finished one, which takes no call.
-pub fn begin(book: &[u8]) -> SessionAnswer
-    ensures { λ r. ⌜ D.sessionTold r ≡ D.beginAnswer (now (book .entry)) ⌝ }
+// A session as it was, and why the call on it was refused.
+fn kept(s: Session, why: Refusal) -> SessionAnswer
+    ensures { λ r. ⌜ D.sessionTold r ≡ (numberOf why, s) ⌝ }
+{
+    SessionAnswer {
+        outcome: Outcome::Refused(why),
+        session: s,
+    }
+}
+
+// A fresh session on a book in place of a session, which stays where the book is refused (6).
+pub fn begin_over(s: Session, book: &[u8]) -> SessionAnswer
+    ensures { λ r. ⌜ D.sessionTold r ≡ D.begunOver (now (book .entry)) s ⌝ }
 {
     let SizeFound::Found(_) = KeySize::of_book_len(book.len()) else {
-        return SessionAnswer {
-            outcome: Outcome::Refused(Refusal::BookLength),
-            session: Session {
-                block: [0u8; 16],
-                taken: 0,
-                finished: true,
-            },
-        };
+        return kept(s, Refusal::BookLength);
     };
     let start = block_at(book, 0);
     SessionAnswer {
@@ -58,14 +61,17 @@ pub fn begin(book: &[u8]) -> SessionAnswer
     }
 }
 
-// A session as it was, and why the call on it was refused.
-fn kept(s: Session, why: Refusal) -> SessionAnswer
-    ensures { λ r. ⌜ D.sessionTold r ≡ (numberOf why, s) ⌝ }
+// A fresh session on a book. Where the book is refused there is none, and what is handed back is a
+// finished one, which takes no call.
+pub fn begin(book: &[u8]) -> SessionAnswer
+    ensures { λ r. ⌜ D.sessionTold r ≡ D.beginAnswer (now (book .entry)) ⌝ }
 {
-    SessionAnswer {
-        outcome: Outcome::Refused(why),
-        session: s,
-    }
+    let none = Session {
+        block: [0u8; 16],
+        taken: 0,
+        finished: true,
+    };
+    begin_over(none, book)
 }
 
 // A block call.
@@ -101,8 +107,7 @@ fn no_tag(s: Session, why: Refusal) -> TagAnswer
     ensures { λ r. ⌜ D.tagTold r ≡ ((numberOf why, zeros), s) ⌝ }
 {
     TagAnswer {
-        outcome: Outcome::Refused(why),
-        tag: [0u8; 16],
+        answer: refused(why),
         session: s,
     }
 }
@@ -127,8 +132,10 @@ pub fn last_call(s: Session, book: &[u8], block: &[u8], kind: u8) -> TagAnswer
     let held = s.block;
     let tag = pass(size, book, group, held, block_at(block, 0));
     TagAnswer {
-        outcome: Outcome::Done,
-        tag,
+        answer: BlockAnswer {
+            outcome: Outcome::Done,
+            block: tag,
+        },
         session: Session {
             block: held,
             taken: s.taken,
