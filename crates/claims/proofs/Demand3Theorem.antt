@@ -9,6 +9,7 @@ use Rattle.claims.specs.Demand3.{Demand3}
 use Rattle.claims.proofs.BuiltLaws.{built-chain}
 use Rattle.claims.proofs.PadCalls.{pad-calls}
 use Rattle.claims.proofs.SessionTheorem.{session-built}
+use Rattle.claims.proofs.LentTheorem.{lent-built}
 use Rattle.claims.proofs.RoundsTheorem.{after-rounds-built}
 use Rattle.claims.proofs.SealTheorem.{seal-built}
 use Rattle.claims.proofs.TagTheorem.{calls-accepted, tag-built}
@@ -17,6 +18,7 @@ pub demand3 : (key ch out held : List ℕ) → Bytes key → Built key ch out he
 demand3 key ch out held hk b = record {
   after-rounds = after-rounds-built key ch out held b;
   session = session-built key ch out held b;
+  lent = lent-built key ch out held b;
   tag = λ m hm l. tag-built key ch out held b m hm l;
   taken = λ m hm l. calls-accepted key ch out held b m hm l;
   coded = λ m l. pad-calls key ch (built-chain key ch out held b) m l;

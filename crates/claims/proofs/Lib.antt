@@ -3,6 +3,7 @@ pub mod BookPasses
 pub mod LoneSets
 pub mod ModelCases
 pub mod SessionTheorem
+pub mod LentTheorem
 pub mod RoundsTheorem
 pub mod SealedText
 pub mod SealTheorem

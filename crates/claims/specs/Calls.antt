@@ -1,6 +1,7 @@
 -- Lists of calls (document 01, "The model session of demand 3"): on the driver's session, on the model, and the list that a
 -- message makes.
 -- Assumes nothing.
+use mathlib.Core.Path.{_≡_}
 use mathlib.Core.List.{List, [], _∷_}
 use Prim.Native.Nat.{ℕ, zero, suc}
 use lib.ListN.{length}
@@ -35,6 +36,12 @@ run f (c ∷ cs) s = (f c s) .0 ∷ run f cs ((f c s) .1)
 -- the driver's answers: the first call gets the session that beginning with the book gives, and all calls get that book
 unfoldable pub driverAnswers : List ℕ → List Call → List Answer
 driverAnswers bk cs = run (driverCall bk) cs ((beginAnswer bk) .1)
+
+-- calls on a session that is lent: each gets the record as the call before it left it, and what it answers and how it leaves the
+-- record is what the contract of the lent call says
+pub data Lent (bk : List ℕ) : Session → List Call → List Answer → Type 0 where
+  none : {s : Session} → Lent bk s [] []
+  then : {s t : Session} {c : Call} {cs : List Call} {a : Answer} {rs : List Answer} → (a, t) ≡ driverCall bk c s → Lent bk t cs rs → Lent bk s (c ∷ cs) (a ∷ rs)
 
 -- the model's answers
 unfoldable pub modelAnswers : (List ℕ → List ℕ) → Set → Set → List Call → List Answer

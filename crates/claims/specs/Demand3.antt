@@ -13,9 +13,10 @@ use Rattle.cipher.specs.Coding.{setOf, decoded}
 use Rattle.cipher.specs.Chain.{messageSet, chainSet}
 use Rattle.cipher.specs.Answers.{keySize}
 use Rattle.pad.specs.Answers.{longest, tagAnswer}
-use Rattle.driver.specs.Driver.{roundsAnswer}
-use Rattle.claims.specs.Model.{Call}
-use Rattle.claims.specs.Calls.{driverAnswers, modelAnswers, callsOf, messageCalls, acceptedCalls}
+use Rattle.driver.specs.Driver.{roundsAnswer, begunOver}
+use Rattle.driver.specs.declared.session.Session.{Session}
+use Rattle.claims.specs.Model.{Call, Answer}
+use Rattle.claims.specs.Calls.{driverAnswers, Lent, modelAnswers, callsOf, messageCalls, acceptedCalls}
 use Rattle.claims.specs.Built.{keyRounds, padSet, archiveSet}
 use Rattle.claims.specs.Tags.{OneTag}
 use Rattle.claims.specs.Sealing.{SealedWay}
@@ -30,11 +31,18 @@ RoundsOfLea rows ch bk n b =
 abbrev pub callsUnder : List ℕ → List ℕ → List Call
 callsUnder ch m = messageCalls (setOf (padSet ch)) m
 
+-- a lent session s, of which beginning said q: it was not refused, and every list of calls on it answers as the model
+abbrev pub LentLikeModel : List ℕ → List ℕ → List ℕ → ℕ → Session → Type 0
+LentLikeModel key ch bk q s =
+    (q ≡ 0) × ((cs : List Call) (rs : List Answer) → Lent bk s cs rs → rs ≡ modelAnswers (encipher (keySize key) key) (messageSet ch) (chainSet ch (keyRounds key)) cs)
+
 pub record Demand3 (key ch bk : List ℕ) : Type 0 where
   -- the rounds, n from 1 to r
   pub after-rounds : (b : List ℕ) → length b ≡ 16 → (n : ℕ) → 1 ≤ n → n ≤ keyRounds key → RoundsOfLea (schedule (keySize key) key) ch bk n b
   -- lists of calls: all answers of the driver, in their order, are the model's
   pub session : (cs : List Call) → driverAnswers bk cs ≡ modelAnswers (encipher (keySize key) key) (messageSet ch) (chainSet ch (keyRounds key)) cs
+  -- and on a session that is lent, whatever it held before it was begun
+  pub lent : (s₀ s : Session) (q : ℕ) → (q, s) ≡ begunOver bk s₀ → LentLikeModel key ch bk q s
   -- every list of calls of which a message's are the accepted ones gives its tag
   pub tag : (m : List ℕ) → Bytes m → length m ≤ longest → (cs : List Call) → acceptedCalls cs (driverAnswers bk cs) ≡ callsUnder ch m
       → OneTag key (archiveSet key ch) m (driverAnswers bk cs)
