@@ -7,20 +7,18 @@ use native.Mathlib.Omega.{arith}
 use Rattle.cipher.specs.Refusal.{numberOf}
 use Rattle.cipher.proofs.AnswerLaws.{number-more}
 use Rattle.cipher.specs.declared.refusal.Refusal.{Refusal}
-use Rattle.driver.specs.declared.session.Session.{Session}
 use Rattle.exports.specs.Into.{into, told, kept}
-use Rattle.exports.specs.Session.{Parts, flagOf, intoParts, tagIntoParts}
 
 -- number n of an answer whose outcome is o
-module _ (answer : ℕ × List ℕ) (o n : ℕ) (v old : List ℕ) (told : (o, v) ≡ answer) (e : n ≡ o) where
+module _ {A : Type 0} (answer : ℕ × A) (o n : ℕ) (v old : A) (told : (o, v) ≡ answer) (e : n ≡ o) where
   pub taken : n ≡ 0 → (n, v) ≡ into answer old
-  taken h = ap (λ (k : ℕ). (k, v)) h ∙ ap (λ (k : ℕ). into (k, v) old) zero-is ∙ ap (λ (a : ℕ × List ℕ). into a old) told
+  taken h = ap (λ (k : ℕ). (k, v)) h ∙ ap (λ (k : ℕ). into (k, v) old) zero-is ∙ ap (λ (a : ℕ × A). into a old) told
     where
       zero-is : 0 ≡ o
       zero-is = omega arith
 
   pub refused : (n ≡ 0 → ⊥) → (n, old) ≡ into answer old
-  refused h = go n h ∙ ap (λ (k : ℕ). into (k, v) old) e ∙ ap (λ (a : ℕ × List ℕ). into a old) told
+  refused h = go n h ∙ ap (λ (k : ℕ). into (k, v) old) e ∙ ap (λ (a : ℕ × A). into a old) told
     where
       go : (k : ℕ) → (k ≡ 0 → ⊥) → (k, old) ≡ into (k, v) old
       go zero f = absurd (f refl)
@@ -42,37 +40,21 @@ module _ {A : Type 0} (answer : (ℕ × A) × List ℕ) (t : ℕ × A) (x : List
       go zero l = absurd (omega arith)
       go (suc k) l = refl
 
--- number n of an answer whose outcome is o and whose session is s; f is its flag
-module _ (o n : ℕ) (s : Session) (old : Parts) (e : n ≡ o) where
-  pub parts-taken : n ≡ 0 → (f : ℕ) → f ≡ flagOf (s .finished) → (n, (s .block, s .taken, f)) ≡ intoParts (o, s) old
-  parts-taken h f ef =
-      (λ i. (h i, (s .block, s .taken, ef i))) ∙ ap (λ (k : ℕ). intoParts (k, s) old) zero-is
+-- a tag t that was delivered with number n of an answer a, and beside it a session's record s
+module _ (a : ℕ × List ℕ) (n : ℕ) (t old : List ℕ) (s held : List ℕ) (e : (n, t) ≡ into a old) where
+  pub tag-taken : n ≡ 0 → (n, (t, s)) ≡ into {A = List ℕ × List ℕ} (a .0, (a .1, s)) (old, held)
+  tag-taken h = go a e
     where
-      zero-is : 0 ≡ o
-      zero-is = omega arith
+      go : (a : ℕ × List ℕ) → (n, t) ≡ into a old → (n, (t, s)) ≡ into {A = List ℕ × List ℕ} (a .0, (a .1, s)) (old, held)
+      go (zero, v) e = ap (λ (p : ℕ × List ℕ). (p .0, (p .1, s))) e
+      go (suc q, v) e = let f : n ≡ suc q = ap (λ (p : ℕ × List ℕ). p .0) e in absurd (omega arith)
 
-  pub parts-refused : (n ≡ 0 → ⊥) → (n, old) ≡ intoParts (o, s) old
-  parts-refused h = go n h ∙ ap (λ (k : ℕ). intoParts (k, s) old) e
+  pub tag-refused : (n ≡ 0 → ⊥) → (n, (t, held)) ≡ into {A = List ℕ × List ℕ} (a .0, (a .1, s)) (old, held)
+  tag-refused h = go a e
     where
-      go : (k : ℕ) → (k ≡ 0 → ⊥) → (k, old) ≡ intoParts (k, s) old
-      go zero f = absurd (f refl)
-      go (suc k) f = refl
-
--- the same with a tag t
-module _ (o n : ℕ) (t : List ℕ) (s : Session) (old : List ℕ × Parts) (e : n ≡ o) where
-  pub tag-taken : n ≡ 0 → (f : ℕ) → f ≡ flagOf (s .finished) → (n, (t, (s .block, s .taken, f))) ≡ tagIntoParts ((o, t), s) old
-  tag-taken h f ef =
-      (λ i. (h i, (t, (s .block, s .taken, ef i)))) ∙ ap (λ (k : ℕ). tagIntoParts ((k, t), s) old) zero-is
-    where
-      zero-is : 0 ≡ o
-      zero-is = omega arith
-
-  pub tag-refused : (n ≡ 0 → ⊥) → (n, old) ≡ tagIntoParts ((o, t), s) old
-  tag-refused h = go n h ∙ ap (λ (k : ℕ). tagIntoParts ((k, t), s) old) e
-    where
-      go : (k : ℕ) → (k ≡ 0 → ⊥) → (k, old) ≡ tagIntoParts ((k, t), s) old
-      go zero f = absurd (f refl)
-      go (suc k) f = refl
+      go : (a : ℕ × List ℕ) → (n, t) ≡ into a old → (n, (t, held)) ≡ into {A = List ℕ × List ℕ} (a .0, (a .1, s)) (old, held)
+      go (zero, v) e = absurd (h (ap (λ (p : ℕ × List ℕ). p .0) e))
+      go (suc q, v) e = ap (λ (p : ℕ × List ℕ). (p .0, (p .1, held))) e
 
 -- the number r and the length l that were delivered of what is told in t, beside the buffer x
 pub kept-told : (answer : (ℕ × ℕ) × List ℕ) (t : ℕ × ℕ) (x : List ℕ) (r l old : ℕ) → (r, l) ≡ told t old → (t, x) ≡ answer → ((r, l), x) ≡ kept answer old

@@ -1,31 +1,26 @@
--- A session as a C caller keeps it, in three parts: a block, a count, and a flag that is not 0 where it is finished.
+-- A session as a C caller keeps it, a record of 19 bytes: its block, its count, lowest byte first, and a byte that is not 0 where
+-- it is finished.
 -- Assumes nothing.
 use mathlib.Core.Bool.{Bool, true, false, not}
-use mathlib.Core.List.{List}
-use Prim.Native.Nat.{ℕ, zero, suc}
+use mathlib.Core.List.{List, [], _∷_, _++_}
+use Prim.Native.Nat.{ℕ, _+_, _*_, _/_, _%_}
 use lib.Dec.{eqb}
+use lib.ListN.{getD, take}
 use Rattle.driver.specs.declared.session.Session.{Session}
 
--- block, count and flag
-abbrev pub Parts : Type 0
-Parts = List ℕ × ℕ × ℕ
-
-abbrev pub sessionOf : Parts → Session
-sessionOf (block, taken, flag) = record { block = block; taken = taken; finished = not (eqb flag 0) }
+unfoldable pub sessionIn : List ℕ → Session
+sessionIn b = record { block = take 16 b; taken = getD b 16 0 + 256 * getD b 17 0; finished = not (eqb (getD b 18 0) 0) }
 
 abbrev pub flagOf : Bool → ℕ
 flagOf true = 1
 flagOf false = 0
 
-abbrev pub partsOf : Session → Parts
-partsOf s = (s .block, s .taken, flagOf (s .finished))
+unfoldable pub bytesOf : Session → List ℕ
+bytesOf s = s .block ++ (s .taken % 256 ∷ s .taken / 256 ∷ flagOf (s .finished) ∷ [])
 
--- what a caller gets from an answer: its number, and the session's parts; after a refusal, as they were
-abbrev pub intoParts : ℕ × Session → Parts → ℕ × Parts
-intoParts (zero, s) old = (zero, partsOf s)
-intoParts (suc n, s) old = (suc n, old)
+-- an answer with its session as a record; and one with a tag
+abbrev pub recorded : ℕ × Session → ℕ × List ℕ
+recorded a = (a .0, bytesOf (a .1))
 
--- the same with a tag beside the number
-abbrev pub tagIntoParts : (ℕ × List ℕ) × Session → List ℕ × Parts → ℕ × (List ℕ × Parts)
-tagIntoParts ((zero, tag), s) old = (zero, (tag, partsOf s))
-tagIntoParts ((suc n, tag), s) old = (suc n, old)
+abbrev pub tagRecorded : (ℕ × List ℕ) × Session → ℕ × (List ℕ × List ℕ)
+tagRecorded a = (a .0 .0, (a .0 .1, bytesOf (a .1)))

@@ -9,19 +9,18 @@ ghost use Rattle.book.specs.Answers.{buildAnswer, roundAnswer};
 ghost use Rattle.pad.specs.Answers.{sealingAnswer, tagAnswer};
 ghost use Rattle.driver.specs.Driver as D;
 ghost use Rattle.archive.specs.Archive as R;
-ghost use Rattle.exports.specs.Session.{sessionOf, flagOf, intoParts, tagIntoParts};
 use archive::check::Checked;
 use cipher::lea::BlockAnswer;
 use cipher::refusal::Refusal;
 use cipher::refusal::Written;
 use cipher::size::KeySize;
 use cipher::size::SizeFound;
-use driver::session::Session;
-use driver::session::SessionAnswer;
 use pad::code::TagCode;
 
+mod session; // session.rt: the tag session
+
 // An answer's block into out, and its number.
-fn deliver(a: BlockAnswer, out: &mut [u8; 16]) -> u32
+pub fn deliver(a: BlockAnswer, out: &mut [u8; 16]) -> u32
     ensures { λ r. ⌜ (r, now (out .exit)) ≡ into (blockTold a) (now (out .entry)) ⌝ }
 {
     let outcome = a.outcome;
@@ -200,102 +199,6 @@ pub extern "C" fn bowlinette_seal(
     ensures { λ r. ⌜ ((r, now (length .exit)), now (out .exit)) ≡ kept (D.sealAnswer (now (book .entry)) (now (iv .entry)) (now (coded .entry)) (now (out .entry))) (now (length .entry)) ⌝ }
 {
     deliver_length(driver::seal::seal(book, iv, coded, out), length)
-}
-
-// Whether a session is finished, as a flag.
-fn flag(finished: bool) -> u8
-    ensures { λ r. ⌜ r ≡ flagOf finished ⌝ }
-{
-    if finished { 1 } else { 0 }
-}
-
-// An answer's session into its three parts, and its number.
-fn deliver_session(
-    a: SessionAnswer,
-    block: &mut [u8; 16],
-    taken: &mut u16,
-    finished: &mut u8,
-) -> u32
-    ensures { λ r. ⌜ (r, (now (block .exit), now (taken .exit), now (finished .exit))) ≡ intoParts (D.sessionTold a) (now (block .entry), now (taken .entry), now (finished .entry)) ⌝ }
-{
-    let outcome = a.outcome;
-    let n = outcome.number();
-    if n == 0 {
-        let s = a.session;
-        let b = s.block;
-        *block = b;
-        *taken = s.taken;
-        *finished = flag(s.finished);
-    }
-    n
-}
-
-// A fresh session on a book, into its three parts.
-#[no_mangle]
-pub extern "C" fn bowlinette_begin(
-    block: &mut [u8; 16],
-    taken: &mut u16,
-    finished: &mut u8,
-    book: &[u8],
-) -> u32
-    ensures { λ r. ⌜ (r, (now (block .exit), now (taken .exit), now (finished .exit))) ≡ intoParts (D.beginAnswer (now (book .entry))) (now (block .entry), now (taken .entry), now (finished .entry)) ⌝ }
-{
-    deliver_session(driver::session::begin(book), block, taken, finished)
-}
-
-// A block call on the session of three parts.
-#[no_mangle]
-pub extern "C" fn bowlinette_block_call(
-    block: &mut [u8; 16],
-    taken: &mut u16,
-    finished: &mut u8,
-    book: &[u8],
-    coded: &[u8],
-) -> u32
-    ensures { λ r. ⌜ (r, (now (block .exit), now (taken .exit), now (finished .exit))) ≡ intoParts (D.blockAnswer (now (book .entry)) (now (coded .entry)) (sessionOf (now (block .entry), now (taken .entry), now (finished .entry)))) (now (block .entry), now (taken .entry), now (finished .entry)) ⌝ }
-{
-    let held = *block;
-    let s = Session {
-        block: held,
-        taken: *taken,
-        finished: *finished != 0,
-    };
-    let a = driver::session::block_call(s, book, coded);
-    deliver_session(a, block, taken, finished)
-}
-
-// A last call on the session of three parts, its tag into tag.
-#[no_mangle]
-pub extern "C" fn bowlinette_last_call(
-    block: &mut [u8; 16],
-    taken: &mut u16,
-    finished: &mut u8,
-    book: &[u8],
-    coded: &[u8],
-    kind: u8,
-    tag: &mut [u8; 16],
-) -> u32
-    ensures { λ r. ⌜ (r, (now (tag .exit), (now (block .exit), now (taken .exit), now (finished .exit)))) ≡ tagIntoParts (D.lastAnswer (now (book .entry)) (now (coded .entry)) kind (sessionOf (now (block .entry), now (taken .entry), now (finished .entry)))) (now (tag .entry), (now (block .entry), now (taken .entry), now (finished .entry))) ⌝ }
-{
-    let held = *block;
-    let s = Session {
-        block: held,
-        taken: *taken,
-        finished: *finished != 0,
-    };
-    let a = driver::session::last_call(s, book, coded, kind);
-    let outcome = a.outcome;
-    let n = outcome.number();
-    if n == 0 {
-        let t = a.tag;
-        *tag = t;
-        let after = a.session;
-        let b = after.block;
-        *block = b;
-        *taken = after.taken;
-        *finished = flag(after.finished);
-    }
-    n
 }
 
 // A sealed file opened under a key with its set r and its IV: the message into the front of out,

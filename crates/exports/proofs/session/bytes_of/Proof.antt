@@ -1,0 +1,17 @@
+-- `session::bytes_of` meets its contract. Assumes nothing.
+use mathlib.Core.Path.{_∙_}
+use mathlib.Core.List.{[], _∷_, _++_}
+use Prim.Native.Nat.{_%_, _/_}
+use borrow.Author.Needs.{needs}
+use Rattle.exports.specs.Session.{bytesOf}
+use Rattle.exports.proofs.session.bytes_of.Statement.{statement}
+use Rattle.exports.proofs.session.bytes_of.Tie as tie
+
+returns : tie.Need-returns
+unfolding bytesOf
+returns c =
+    let s = c .before .before .before .before .before .before .before .args .s in
+    c .before .put-block .ensures ∙ (λ i. s .block ++ (s .taken % 256 ∷ s .taken / 256 ∷ c .before .before .before .before .flag .ensures i ∷ []))
+
+pub bytes-of-spec : {M : Type 1} → statement M
+bytes-of-spec = tie.close (tie.spec (λ c. search needs) (λ c. search needs) (λ c. search needs) (λ c. search needs) (λ c κs. search needs) (λ c. search needs) (λ c. search needs) (λ c κs. search needs) returns)
