@@ -60,8 +60,9 @@ extern "C" {
 #define BOWLINETTE_INVALID 0
 #define BOWLINETTE_VALID 1
 
-/* The tables of one round of a book, in bytes, and the block calls that a tag session takes. */
+/* The tables of one round of a book, in bytes, a tag session, in bytes, and the block calls it takes. */
 #define BOWLINETTE_ROUND_LENGTH 18432
+#define BOWLINETTE_SESSION_LENGTH 19
 #define BOWLINETTE_BLOCK_CALLS_MAX 65535
 
 /* The three key sizes: the key in bytes, its rounds, its chain and its book in bytes. */
@@ -207,35 +208,39 @@ uint32_t bowlinette_seal(const uint8_t *book, size_t book_length,
                          uint64_t *length);
 
 /*
- * A tag session is three things that the caller keeps, in places that do not overlap, and that only
- * these three functions should write: a block of 16 bytes; taken, the number of block calls accepted
- * so far; and finished, 0 until a last call is accepted and then 1 (any other number is taken as 1).
- * All calls of a session should get the same book. A message coded for a tag goes in a block at a
- * time, its last block and its kind by the last call.
- *
- * Begins a session, whatever the three held: the block is the book's start, taken and finished are 0.
+ * A tag session, which the caller owns and only the three functions below write: all of it is in these
+ * bytes, so it may be copied, kept and compared. Any bytes are safe to be given; what a session is
+ * before it has begun does not matter. All calls of a session should get the same book. A message coded
+ * for a tag goes in a block at a time, its last block and its kind by the last call.
+ */
+typedef struct bowlinette_session {
+    uint8_t bytes[BOWLINETTE_SESSION_LENGTH];
+} bowlinette_session;
+
+/*
+ * Begins a session, whatever it held: its block is the book's start, and it has taken no call.
  * Refuses 6 (book length).
  */
-uint32_t bowlinette_begin(uint8_t *block, uint16_t *taken, uint8_t *finished,
+uint32_t bowlinette_begin(bowlinette_session *session,
                           const uint8_t *book, size_t book_length);
 
 /*
- * A block call: folds the coded block into the session's, takes that through the rounds, and adds 1
- * to taken.
- * Refuses 6 (book length), 7 (length of coded), 21 (session finished), then 22 (65,535 taken).
+ * A block call: folds the coded block into the session's, takes that through the rounds, and counts
+ * one call more.
+ * Refuses 6 (book length), 7 (block length), 21 (session finished), then 22 (65,535 calls taken).
  */
-uint32_t bowlinette_block_call(uint8_t *block, uint16_t *taken, uint8_t *finished,
+uint32_t bowlinette_block_call(bowlinette_session *session,
                                const uint8_t *book, size_t book_length,
-                               const uint8_t *coded, size_t coded_length);
+                               const uint8_t *block, size_t block_length);
 
 /*
- * A last call: folds in the last coded block by its kind, takes that through the rounds, writes the 16
- * bytes of the tag to tag, and sets finished to 1. The session's block and taken stay as they were.
- * Refuses 6 (book length), 7 (length of coded), 10 (kind), then 21 (session finished).
+ * A last call: folds in the last coded block by its kind, takes that through the rounds and writes the
+ * 16 bytes of the tag to tag. The session is then finished.
+ * Refuses 6 (book length), 7 (block length), 10 (kind), then 21 (session finished).
  */
-uint32_t bowlinette_last_call(uint8_t *block, uint16_t *taken, uint8_t *finished,
+uint32_t bowlinette_last_call(bowlinette_session *session,
                               const uint8_t *book, size_t book_length,
-                              const uint8_t *coded, size_t coded_length,
+                              const uint8_t *block, size_t block_length,
                               uint8_t kind,
                               uint8_t *tag);
 

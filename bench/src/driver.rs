@@ -71,11 +71,7 @@ fn seal(size: Size, n: usize) {
 fn tag(size: Size, n: usize) {
     let (book, coded) = (any_book(size), any_text(n));
     let (front, last) = coded.split_at(n - 16);
-    let mut session = Session {
-        block: [0; 16],
-        taken: 0,
-        finished: 0,
-    };
+    let mut session = Session::of([0; 16], 0, 0);
     let (mut a, mut b) = ([0; 16], [0; 16]);
     measure(
         "tag",

@@ -107,25 +107,19 @@ mod c {
             length: *mut u64,
         ) -> u32;
         pub fn bowlinette_begin(
-            block: *mut u8,
-            taken: *mut u16,
-            finished: *mut u8,
+            session: *mut super::Session,
             book: *const u8,
             book_length: usize,
         ) -> u32;
         pub fn bowlinette_block_call(
-            block: *mut u8,
-            taken: *mut u16,
-            finished: *mut u8,
+            session: *mut super::Session,
             book: *const u8,
             book_length: usize,
             coded: *const u8,
             coded_length: usize,
         ) -> u32;
         pub fn bowlinette_last_call(
-            block: *mut u8,
-            taken: *mut u16,
-            finished: *mut u8,
+            session: *mut super::Session,
             book: *const u8,
             book_length: usize,
             coded: *const u8,
@@ -357,23 +351,32 @@ pub fn seal(book: &[u8], iv: &[u8], coded: &[u8], out: &mut [u8], length: &mut u
     }
 }
 
-/// The three things that make a tag session.
+/// The 19 bytes of a tag session, by their parts: its block, its count, lowest byte first, and a byte
+/// that is not 0 where it has finished.
 #[derive(Clone, Copy, Debug, PartialEq, Eq)]
+#[repr(C)]
 pub struct Session {
     pub block: [u8; 16],
-    pub taken: u16,
+    pub taken: [u8; 2],
     pub finished: u8,
 }
 
 impl Session {
+    /// A session of these parts.
+    pub const fn of(block: [u8; 16], taken: u16, finished: u8) -> Session {
+        Session {
+            block,
+            taken: taken.to_le_bytes(),
+            finished,
+        }
+    }
+
     /// Begins the session.
     #[inline]
     pub fn begin(&mut self, book: &[u8]) -> u32 {
         unsafe {
             c::bowlinette_begin(
-                self.block.as_mut_ptr(),
-                &mut self.taken,
-                &mut self.finished,
+                self,
                 book.as_ptr(),
                 book.len(),
             )
@@ -385,9 +388,7 @@ impl Session {
     pub fn block_call(&mut self, book: &[u8], coded: &[u8]) -> u32 {
         unsafe {
             c::bowlinette_block_call(
-                self.block.as_mut_ptr(),
-                &mut self.taken,
-                &mut self.finished,
+                self,
                 book.as_ptr(),
                 book.len(),
                 coded.as_ptr(),
@@ -401,9 +402,7 @@ impl Session {
     pub fn last_call(&mut self, book: &[u8], coded: &[u8], kind: u8, tag: &mut [u8; 16]) -> u32 {
         unsafe {
             c::bowlinette_last_call(
-                self.block.as_mut_ptr(),
-                &mut self.taken,
-                &mut self.finished,
+                self,
                 book.as_ptr(),
                 book.len(),
                 coded.as_ptr(),

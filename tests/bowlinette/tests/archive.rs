@@ -109,11 +109,7 @@ impl Product {
 }
 
 /// What is no session before it has begun.
-const DIRTY: bowlinette::Session = bowlinette::Session {
-    block: [7; 16],
-    taken: 7,
-    finished: 7,
-};
+const DIRTY: bowlinette::Session = bowlinette::Session::of([7; 16], 7, 7);
 
 /// A number below a bound, by chance.
 fn below(random: &mut Random, bound: usize) -> usize {

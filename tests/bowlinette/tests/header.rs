@@ -1,4 +1,4 @@
-//! include/bowlinette.h as a C program sees it: tests/c/header.c is compiled with it as C99, linked
+//! include/bowlinette.h as a C program sees it: ../c/header.c is compiled with it as C99, linked
 //! with the static library and run, and must print what the reference says.
 
 use reference::driver::{self, Session};
@@ -59,20 +59,14 @@ fn due_driver() -> Vec<String> {
     let mut sealed = [0; 32];
     let written = driver::seal(&book, first, &coded, &mut sealed);
     let mut session = Session::begin(&book).unwrap();
-    let start = session.block;
-    let number = session.block_call(&book, first);
-    let running = session.block;
+    session.block_call(&book, first).unwrap();
     vec![
         line(driver::run_round(&book[..book::ROUND], first)),
         line(driver::run_rounds(&book, size.rounds(), first)),
         line(written.map(|_| sealed[16..].try_into().unwrap())),
         "1".into(),
-        line(Ok(start)),
         "1 1".into(),
-        line(number.map(|()| running)),
-        "1".into(),
         line(session.last_call(&book, last, 1)),
-        "1 1 1 1 1".into(),
     ]
 }
 
@@ -83,7 +77,7 @@ fn a_c_program_with_the_header() {
     let mut cc = Command::new("cc");
     cc.args(["-std=c99", "-Wall", "-Wextra", "-pedantic", "-Werror", "-I"])
         .arg(here.join("../../include"))
-        .arg(here.join("tests/c/header.c"))
+        .arg(here.join("../c/header.c"))
         .arg(here.join("../../target/staticlib/libexports.a"))
         .arg("-o")
         .arg(&program);

@@ -70,11 +70,7 @@ impl Both {
     /// A session in any state; each number but 0 means that it has finished.
     fn new(block: Block, taken: u16, flag: u8) -> Both {
         Both {
-            proved: bowlinette::Session {
-                block,
-                taken,
-                finished: flag,
-            },
+            proved: bowlinette::Session::of(block, taken, flag),
             reference: driver::Session {
                 block,
                 count: taken,

@@ -55,10 +55,10 @@ static void codes(void)
 static void driver(void)
 {
     static uint8_t book[BOWLINETTE_BOOK_LENGTH_192], coded[2 * BOWLINETTE_BLOCK_LENGTH];
-    uint8_t block[BOWLINETTE_BLOCK_LENGTH], out[2 * BOWLINETTE_BLOCK_LENGTH], finished = 9;
+    uint8_t out[2 * BOWLINETTE_BLOCK_LENGTH];
     const size_t length = sizeof book, one = BOWLINETTE_BLOCK_LENGTH;
     uint64_t written = 0;
-    uint16_t taken = 9;
+    bowlinette_session session;
     size_t i;
 
     for (i = 0; i < sizeof book; i++)
@@ -69,22 +69,9 @@ static void driver(void)
     show(bowlinette_run_rounds(book, length, BOWLINETTE_ROUNDS_192, coded, one, out), out);
     show(bowlinette_seal(book, length, coded, one, coded, 2 * one, out, sizeof out, &written), out + one);
     printf("%d\n", written == 2 * one);
-    show(bowlinette_begin(block, &taken, &finished, book, length), block);
-    printf("%d %d\n", taken == 0, finished == 0);
-    show(bowlinette_block_call(block, &taken, &finished, book, length, coded, one), block);
-    printf("%d\n", taken == 1);
-    show(bowlinette_last_call(block, &taken, &finished, book, length, coded + one, one,
-                              BOWLINETTE_KIND_PADDED, out), out);
-    printf("%d", finished == 1);
-    printf(" %d", bowlinette_begin(block, &taken, &finished, book, one) == BOWLINETTE_REFUSED_BOOK_LENGTH);
-    printf(" %d", bowlinette_last_call(block, &taken, &finished, book, length, coded, one, 2, out)
-                      == BOWLINETTE_REFUSED_KIND);
-    printf(" %d", bowlinette_block_call(block, &taken, &finished, book, length, coded, one)
-                      == BOWLINETTE_REFUSED_FINISHED);
-    taken = BOWLINETTE_BLOCK_CALLS_MAX;
-    finished = 0;
-    printf(" %d\n", bowlinette_block_call(block, &taken, &finished, book, length, coded, one)
-                        == BOWLINETTE_REFUSED_LIMIT);
+    printf("%d", bowlinette_begin(&session, book, length) == BOWLINETTE_DONE);
+    printf(" %d\n", bowlinette_block_call(&session, book, length, coded, one) == BOWLINETTE_DONE);
+    show(bowlinette_last_call(&session, book, length, coded + one, one, BOWLINETTE_KIND_PADDED, out), out);
 }
 
 /* CMAC of a message of one block, from its definition. */

@@ -1,0 +1,335 @@
+/*
+ * The C library as a bank's programs would use it: for each key size a message goes the whole way from
+ * the pad over the driver to the archive, and every function is made to give each of its refusals. After a
+ * refusal nothing that was lent may have changed; after a success nothing behind what is written.
+ * Prints how many checks there were and how many of them failed.
+ */
+#include "bowlinette.h"
+#include <stdio.h>
+#include <string.h>
+
+#define BLOCK BOWLINETTE_BLOCK_LENGTH
+#define SET BOWLINETTE_SET_LENGTH
+#define LONGEST BOWLINETTE_MESSAGE_LENGTH_MAX
+#define INK 9412
+#define FILL 0x5a
+
+static unsigned long checks, failures;
+
+static void check(int holds, const char *what, unsigned long where)
+{
+    checks++;
+    if (!holds) {
+        failures++;
+        printf("failed: %s (%lu)\n", what, where);
+    }
+}
+
+#define CHECK(holds) check((holds) != 0, #holds, __LINE__)
+
+/* A buffer that is longer than what is written to it, and a function's places for a length and a kind. */
+struct room {
+    uint8_t bytes[LONGEST + 1 + BLOCK];
+    uint64_t length;
+    uint8_t small;
+};
+
+static struct room room;
+
+static void fresh(void)
+{
+    memset(&room, FILL, sizeof room);
+}
+
+/* Whether all of the room from byte n on, and the two places beside it, are as they were. */
+static int untouched(size_t n)
+{
+    static struct room before;
+    memset(&before, FILL, sizeof before);
+    return memcmp(room.bytes + n, before.bytes + n, sizeof room.bytes - n) == 0
+        && room.length == before.length && room.small == before.small;
+}
+
+/* A call that must be refused with the number, and must have changed nothing in the room. */
+#define REFUSED(number, call)             \
+    do {                                  \
+        fresh();                          \
+        CHECK((call) == (number));        \
+        CHECK(untouched(0));              \
+    } while (0)
+
+static const struct size {
+    size_t key, rounds, chain, book;
+} sizes[] = {
+    {BOWLINETTE_KEY_LENGTH_128, BOWLINETTE_ROUNDS_128, BOWLINETTE_CHAIN_LENGTH_128, BOWLINETTE_BOOK_LENGTH_128},
+    {BOWLINETTE_KEY_LENGTH_192, BOWLINETTE_ROUNDS_192, BOWLINETTE_CHAIN_LENGTH_192, BOWLINETTE_BOOK_LENGTH_192},
+    {BOWLINETTE_KEY_LENGTH_256, BOWLINETTE_ROUNDS_256, BOWLINETTE_CHAIN_LENGTH_256, BOWLINETTE_BOOK_LENGTH_256},
+};
+
+static uint8_t key[32], chain[BOWLINETTE_CHAIN_LENGTH_256 + 1], book[BOWLINETTE_BOOK_LENGTH_256 + BLOCK];
+static uint8_t message[LONGEST + 1], coded[LONGEST + 1], sealed[LONGEST + 1], tag[BLOCK];
+static const uint8_t iv[BLOCK] = {3, 1, 4, 1, 5, 9, 2, 6, 5, 3, 5, 8, 9, 7, 9, 3};
+static uint64_t coded_length, sealed_length;
+static uint8_t kind;
+
+/* A coding: 16 numbers, each once, another for each n. */
+static void coding(uint8_t *place, size_t n)
+{
+    unsigned i;
+    for (i = 0; i < 16; i++)
+        place[i] = (uint8_t)((i * (2 * (n % 8) + 1) + n / 8) % 16);
+}
+
+/* The chain for a size: word 3 of each set after set 0 has the codings of word 0 of the set before it. */
+static void make_chain(const struct size *s)
+{
+    const size_t sets = s->rounds + 2, round = 24 * BOWLINETTE_CODING_LENGTH + 24;
+    uint8_t *rounds = chain + SET * sets;
+    size_t i, l;
+
+    for (i = 0; i < 32 * sets; i++)
+        coding(chain + BOWLINETTE_CODING_LENGTH * i, 5 * i + s->key);
+    for (l = 2; l < sets; l++)
+        memcpy(chain + SET * l + 3 * SET / 4, chain + SET * (l - 1), SET / 4);
+    for (l = 0; l < s->rounds; l++) {
+        uint8_t *masks = rounds + round * l + 24 * BOWLINETTE_CODING_LENGTH;
+        for (i = 0; i < 24; i++) {
+            coding(rounds + round * l + BOWLINETTE_CODING_LENGTH * i, 7 * i + l);
+            masks[i] = (uint8_t)(i % 8 != 0 && (i + l) % 3 == 0);
+        }
+    }
+}
+
+/* The works: the book, and a round of it by itself. */
+static void works(const struct size *s)
+{
+    make_chain(s);
+    CHECK(bowlinette_check_chain(s->key, chain, s->chain) == BOWLINETTE_DONE);
+    CHECK(bowlinette_check_set(chain, SET) == BOWLINETTE_DONE);
+    memset(book, FILL, sizeof book);
+    CHECK(bowlinette_build(key, s->key, chain, s->chain, book, sizeof book) == BOWLINETTE_DONE);
+    CHECK(book[s->book] == FILL);
+    fresh();
+    CHECK(bowlinette_build_round(key, s->key, chain, s->chain, s->rounds + 1, room.bytes, sizeof room.bytes) == BOWLINETTE_DONE);
+    CHECK(untouched(BOWLINETTE_ROUND_LENGTH));
+    CHECK(memcmp(room.bytes, book + s->book - BOWLINETTE_ROUND_LENGTH * (s->rounds - 1), BOWLINETTE_ROUND_LENGTH) == 0);
+}
+
+/* A message of n bytes, coded and sealed, and its tag. */
+static void seal(const struct size *s, size_t n)
+{
+    bowlinette_session session;
+    size_t i;
+
+    for (i = 0; i < n; i++)
+        message[i] = (uint8_t)(i * i / 7 + n);
+    CHECK(bowlinette_code_for_sealing(chain, SET, message, n, coded, sizeof coded, &coded_length) == BOWLINETTE_DONE);
+    CHECK(coded_length == n / BLOCK * BLOCK + BLOCK);
+    CHECK(bowlinette_seal(book, s->book, iv, BLOCK, coded, coded_length, sealed, sizeof sealed, &sealed_length) == BOWLINETTE_DONE);
+    CHECK(sealed_length == coded_length);
+    CHECK(bowlinette_code_for_tag(chain, SET, message, n, coded, sizeof coded, &coded_length, &kind) == BOWLINETTE_DONE);
+    CHECK(kind == (n == 0 || n % BLOCK != 0 ? BOWLINETTE_KIND_PADDED : BOWLINETTE_KIND_WHOLE));
+    CHECK(bowlinette_begin(&session, book, s->book) == BOWLINETTE_DONE);
+    for (i = 0; i + BLOCK < coded_length; i += BLOCK)
+        CHECK(bowlinette_block_call(&session, book, s->book, coded + i, BLOCK) == BOWLINETTE_DONE);
+    CHECK(bowlinette_last_call(&session, book, s->book, coded + i, BLOCK, kind, tag) == BOWLINETTE_DONE);
+}
+
+/* What was sealed opens to the message, and its tag is valid; one bit less is not. */
+static void archive(const struct size *s, size_t n)
+{
+    const uint8_t *set = chain + SET * (s->rounds + 1);
+    uint8_t verdict = FILL;
+
+    fresh();
+    CHECK(bowlinette_open(key, s->key, set, SET, iv, BLOCK, sealed, sealed_length, room.bytes, sizeof room.bytes, &sealed_length) == BOWLINETTE_DONE);
+    CHECK(sealed_length == n && memcmp(room.bytes, message, n) == 0 && untouched(n));
+    CHECK(bowlinette_check(key, s->key, set, SET, message, n, tag, BLOCK, &verdict) == BOWLINETTE_DONE);
+    CHECK(verdict == BOWLINETTE_VALID);
+    tag[n % BLOCK] ^= 0x10;
+    CHECK(bowlinette_check(key, s->key, set, SET, message, n, tag, BLOCK, &verdict) == BOWLINETTE_DONE);
+    CHECK(verdict == BOWLINETTE_INVALID);
+}
+
+/* A block through LEA and back, and through the tables of a book. */
+static void blocks(const struct size *s)
+{
+    uint8_t there[BLOCK], back[BLOCK], first[BLOCK], next[BLOCK];
+    uint32_t row[BOWLINETTE_ROW_WORDS];
+
+    CHECK(bowlinette_encipher(key, s->key, iv, BLOCK, there) == BOWLINETTE_DONE);
+    CHECK(bowlinette_decipher(key, s->key, there, BLOCK, back) == BOWLINETTE_DONE);
+    CHECK(memcmp(back, iv, BLOCK) == 0);
+    CHECK(bowlinette_first_rounds(key, s->key, s->rounds, iv, BLOCK, back) == BOWLINETTE_DONE);
+    CHECK(memcmp(back, there, BLOCK) == 0);
+    CHECK(bowlinette_round_keys(key, s->key, 0, row) == BOWLINETTE_DONE);
+    CHECK(bowlinette_run_rounds(book, s->book, 1, iv, BLOCK, first) == BOWLINETTE_DONE);
+    CHECK(bowlinette_run_rounds(book, s->book, 2, iv, BLOCK, next) == BOWLINETTE_DONE);
+    CHECK(bowlinette_run_round(book + s->book - BOWLINETTE_ROUND_LENGTH * (s->rounds - 1), BOWLINETTE_ROUND_LENGTH, first, BLOCK, back) == BOWLINETTE_DONE);
+    CHECK(memcmp(back, next, BLOCK) == 0);
+}
+
+/* Refusals 1 and 7 of LEA on one block. */
+static void refusals_of_blocks(void)
+{
+    uint32_t row[BOWLINETTE_ROW_WORDS] = {1, 2, 3, 4, 5, 6};
+
+    REFUSED(1, bowlinette_encipher(key, 17, iv, BLOCK, room.bytes));
+    REFUSED(7, bowlinette_encipher(key, 16, iv, BLOCK - 1, room.bytes));
+    REFUSED(1, bowlinette_decipher(key, 0, iv, BLOCK - 1, room.bytes));
+    REFUSED(7, bowlinette_decipher(key, 32, iv, 0, room.bytes));
+    REFUSED(1, bowlinette_first_rounds(key, 31, 3, iv, BLOCK, room.bytes));
+    REFUSED(7, bowlinette_first_rounds(key, 24, 3, iv, 1, room.bytes));
+    REFUSED(1, bowlinette_round_keys(key, 8, 0, row));
+    CHECK(row[0] == 1 && row[5] == 6);
+}
+
+/* A chain with one byte changed, which both checking and building must refuse with the number. */
+static void chain_refused(const struct size *s, size_t at, uint8_t with, uint32_t number)
+{
+    const uint8_t was = chain[at];
+
+    chain[at] = with;
+    CHECK(bowlinette_check_chain(s->key, chain, s->chain) == number);
+    REFUSED(number, bowlinette_build(key, s->key, chain, s->chain, room.bytes, s->book));
+    REFUSED(number, bowlinette_build_round(key, s->key, chain, s->chain, 3, room.bytes, s->book));
+    chain[at] = was;
+}
+
+/* Refusals 1 to 5 and 9 of the works. */
+static void refusals_of_the_works(const struct size *s)
+{
+    const size_t masks = SET * (s->rounds + 2) + 24 * BOWLINETTE_CODING_LENGTH;
+    uint8_t word[SET / 4];
+
+    CHECK(bowlinette_check_set(chain, SET - 1) == 2);
+    CHECK(bowlinette_check_set(message, SET) == 3);
+    CHECK(bowlinette_check_chain(s->key + 1, chain, s->chain) == 1);
+    CHECK(bowlinette_check_chain(s->key, chain, s->chain + 1) == 2);
+    REFUSED(1, bowlinette_build(key, s->key - 1, chain, s->chain, room.bytes, s->book));
+    REFUSED(1, bowlinette_build_round(key, s->key - 1, chain, s->chain, 0, room.bytes, s->book));
+    REFUSED(2, bowlinette_build(key, s->key, chain, s->chain - 1, room.bytes, s->book));
+    REFUSED(2, bowlinette_build_round(key, s->key, chain, s->chain - 1, 0, room.bytes, s->book));
+    chain_refused(s, 0, 16, 3);
+    chain_refused(s, 1, chain[0], 3);
+    memcpy(word, chain + SET * 2 + 3 * SET / 4, sizeof word);
+    coding(chain + SET * 2 + 3 * SET / 4, 127);
+    chain_refused(s, masks, 0, 4);
+    memcpy(chain + SET * 2 + 3 * SET / 4, word, sizeof word);
+    chain_refused(s, masks, 1, 5);
+    chain_refused(s, masks + 1, 2, 5);
+    REFUSED(9, bowlinette_build(key, s->key, chain, s->chain, room.bytes, s->book - 1));
+    REFUSED(9, bowlinette_build_round(key, s->key, chain, s->chain, 0, room.bytes, BOWLINETTE_ROUND_LENGTH - 1));
+}
+
+/* Refusals 2, 3, 8 and 9 of the pad. */
+static void refusals_of_the_pad(void)
+{
+    REFUSED(2, bowlinette_code_for_sealing(chain, SET + 1, message, INK, room.bytes, sizeof room.bytes, &room.length));
+    REFUSED(3, bowlinette_code_for_sealing(message, SET, message, INK, room.bytes, sizeof room.bytes, &room.length));
+    REFUSED(8, bowlinette_code_for_sealing(chain, SET, message, LONGEST + 1, room.bytes, sizeof room.bytes, &room.length));
+    REFUSED(9, bowlinette_code_for_sealing(chain, SET, message, INK, room.bytes, INK, &room.length));
+    REFUSED(2, bowlinette_code_for_tag(chain, 0, message, INK, room.bytes, sizeof room.bytes, &room.length, &room.small));
+    REFUSED(3, bowlinette_code_for_tag(message, SET, message, INK, room.bytes, sizeof room.bytes, &room.length, &room.small));
+    REFUSED(8, bowlinette_code_for_tag(chain, SET, message, LONGEST + 1, room.bytes, sizeof room.bytes, &room.length, &room.small));
+    REFUSED(9, bowlinette_code_for_tag(chain, SET, message, INK, room.bytes, INK, &room.length, &room.small));
+}
+
+/* Refusals 6 to 9 of the driver's rounds and sealing. */
+static void refusals_of_the_driver(const struct size *s)
+{
+    REFUSED(6, bowlinette_run_round(book, BOWLINETTE_ROUND_LENGTH + 1, iv, BLOCK, room.bytes));
+    REFUSED(7, bowlinette_run_round(book, BOWLINETTE_ROUND_LENGTH, iv, BLOCK - 1, room.bytes));
+    REFUSED(6, bowlinette_run_rounds(book, s->book + 1, 5, iv, BLOCK, room.bytes));
+    REFUSED(7, bowlinette_run_rounds(book, s->book, 5, iv, BLOCK - 1, room.bytes));
+    REFUSED(6, bowlinette_seal(book, 0, iv, BLOCK, coded, BLOCK, room.bytes, BLOCK, &room.length));
+    REFUSED(7, bowlinette_seal(book, s->book, iv, 0, coded, BLOCK, room.bytes, BLOCK, &room.length));
+    REFUSED(8, bowlinette_seal(book, s->book, iv, BLOCK, coded, 0, room.bytes, BLOCK, &room.length));
+    REFUSED(8, bowlinette_seal(book, s->book, iv, BLOCK, coded, BLOCK + 1, room.bytes, 2 * BLOCK, &room.length));
+    REFUSED(8, bowlinette_seal(book, s->book, iv, BLOCK, room.bytes, LONGEST + 1 + BLOCK, sealed, LONGEST + 1, &room.length));
+    REFUSED(9, bowlinette_seal(book, s->book, iv, BLOCK, coded, 2 * BLOCK, room.bytes, 2 * BLOCK - 1, &room.length));
+}
+
+/* A call on a session that must be refused with the number and leave the session and the tag's place. */
+#define SESSION_REFUSED(number, call)                              \
+    do {                                                           \
+        const bowlinette_session was = session;                    \
+        REFUSED(number, call);                                     \
+        CHECK(memcmp(&session, &was, sizeof session) == 0);        \
+    } while (0)
+
+/* Refusals 6, 7, 10, 21 and 22 of a session, and that it goes on behind them to the same tag. */
+static void refusals_of_a_session(const struct size *s)
+{
+    bowlinette_session session = {{0}}, plain;
+    uint8_t want[BLOCK];
+    unsigned long i;
+
+    SESSION_REFUSED(6, bowlinette_begin(&session, book, s->book - 1));
+    CHECK(bowlinette_begin(&session, book, s->book) == BOWLINETTE_DONE);
+    plain = session;
+    CHECK(bowlinette_last_call(&plain, book, s->book, iv, BLOCK, 0, want) == BOWLINETTE_DONE);
+    SESSION_REFUSED(6, bowlinette_block_call(&session, book, 1, iv, BLOCK - 1));
+    SESSION_REFUSED(7, bowlinette_block_call(&session, book, s->book, iv, BLOCK - 1));
+    SESSION_REFUSED(6, bowlinette_last_call(&session, book, 1, iv, BLOCK, 2, room.bytes));
+    SESSION_REFUSED(7, bowlinette_last_call(&session, book, s->book, iv, 0, 2, room.bytes));
+    SESSION_REFUSED(10, bowlinette_last_call(&session, book, s->book, iv, BLOCK, 2, room.bytes));
+    CHECK(bowlinette_last_call(&session, book, s->book, iv, BLOCK, 0, room.bytes) == BOWLINETTE_DONE);
+    CHECK(memcmp(room.bytes, want, BLOCK) == 0);
+    SESSION_REFUSED(21, bowlinette_block_call(&session, book, s->book, iv, BLOCK));
+    SESSION_REFUSED(21, bowlinette_last_call(&session, book, s->book, iv, BLOCK, 1, room.bytes));
+    CHECK(bowlinette_begin(&session, book, s->book) == BOWLINETTE_DONE);
+    for (i = 0; i < BOWLINETTE_BLOCK_CALLS_MAX; i++)
+        if (bowlinette_block_call(&session, book, s->book, iv, BLOCK) != BOWLINETTE_DONE)
+            break;
+    CHECK(i == BOWLINETTE_BLOCK_CALLS_MAX);
+    SESSION_REFUSED(22, bowlinette_block_call(&session, book, s->book, iv, BLOCK));
+    CHECK(bowlinette_last_call(&session, book, s->book, iv, BLOCK, 1, room.bytes) == BOWLINETTE_DONE);
+}
+
+/* Refusals 1, 2, 3, 7, 8, 9 and 11 of the archive. */
+static void refusals_of_the_archive(const struct size *s)
+{
+    const uint8_t *set = chain + SET * (s->rounds + 1);
+    const size_t n = 2 * BLOCK;
+
+    REFUSED(1, bowlinette_open(key, 20, set, SET, iv, BLOCK, sealed, n, room.bytes, n, &room.length));
+    REFUSED(2, bowlinette_open(key, s->key, set, SET - 1, iv, BLOCK, sealed, n, room.bytes, n, &room.length));
+    REFUSED(3, bowlinette_open(key, s->key, message, SET, iv, BLOCK, sealed, n, room.bytes, n, &room.length));
+    REFUSED(7, bowlinette_open(key, s->key, set, SET, iv, BLOCK - 1, sealed, n, room.bytes, n, &room.length));
+    REFUSED(8, bowlinette_open(key, s->key, set, SET, iv, BLOCK, sealed, 0, room.bytes, n, &room.length));
+    REFUSED(8, bowlinette_open(key, s->key, set, SET, iv, BLOCK, sealed, n - 1, room.bytes, n, &room.length));
+    REFUSED(9, bowlinette_open(key, s->key, set, SET, iv, BLOCK, sealed, n, room.bytes, n - 1, &room.length));
+    REFUSED(11, bowlinette_open(key, s->key, set, SET, iv, BLOCK, sealed, n, room.bytes, n, &room.length));
+    REFUSED(1, bowlinette_check(key, 33, set, SET, message, INK, tag, BLOCK, &room.small));
+    REFUSED(2, bowlinette_check(key, s->key, set, 0, message, INK, tag, BLOCK, &room.small));
+    REFUSED(3, bowlinette_check(key, s->key, message, SET, message, INK, tag, BLOCK, &room.small));
+    REFUSED(7, bowlinette_check(key, s->key, set, SET, message, INK, tag, BLOCK + 1, &room.small));
+    REFUSED(8, bowlinette_check(key, s->key, set, SET, message, LONGEST + 1, tag, BLOCK, &room.small));
+}
+
+int main(void)
+{
+    static const size_t lengths[] = {0, 1, BLOCK - 1, BLOCK, BLOCK + 1, INK, LONGEST};
+    size_t i, n;
+
+    for (i = 0; i < sizeof key; i++)
+        key[i] = (uint8_t)(29 * i + 1);
+    refusals_of_blocks();
+    for (i = 0; i < sizeof sizes / sizeof sizes[0]; i++) {
+        const struct size *s = &sizes[i];
+        works(s);
+        blocks(s);
+        for (n = 0; n < sizeof lengths / sizeof lengths[0]; n++) {
+            seal(s, lengths[n]);
+            archive(s, lengths[n]);
+        }
+        refusals_of_the_works(s);
+        refusals_of_the_pad();
+        refusals_of_the_driver(s);
+        refusals_of_a_session(s);
+        refusals_of_the_archive(s);
+    }
+    printf("%lu checks through the C interface, %lu failed\n", checks, failures);
+    return failures != 0;
+}
