@@ -31,6 +31,7 @@ unfolding driverAnswers
 lent-built key ch out held b s₀ s q e =
     let bk = bookIn key held in
     let known = book-found (keySize key) (schedule (keySize key) key) ch bk (built-chain key ch out held b) (built-book key ch out held b) in
-    let fresh = e ∙ over-done bk s₀ _ known in
-    ( ap (λ (r : ℕ × Session). r .0) fresh
-    , λ cs rs l. lent-run bk l ∙ ap (λ (r : ℕ × Session). run (driverCall bk) cs (r .1)) (fresh ∙ sym (begin-done bk _ known)) ∙ session-built key ch out held b cs)
+    let fresh = e ∙ over-done bk s₀ _ known in (
+      ap (λ (r : ℕ × Session). r .0) fresh,
+      λ cs rs l. lent-run bk l ∙ ap (λ (r : ℕ × Session). run (driverCall bk) cs (r .1)) (fresh ∙ sym (begin-done bk _ known)) ∙ session-built key ch out held b cs,
+    )
