@@ -8,7 +8,7 @@ use native.Mathlib.Omega.{arith}
 use lib.ListN.{length, getD, set, take, drop}
 use lib.Seq.{take-all, paste, paste-suc}
 use Rattle.lists.specs.Tabulation.{chunks}
-use Rattle.lists.specs.Blocks.{Bytes, Block, xorBlock, cut, blocks}
+use Rattle.lists.specs.Blocks.{Bytes, Block, xorBlock, cut, blocks, blockOf}
 use Rattle.lists.proofs.BlockLaws.{block-xor, cut-more, flatten-more}
 use Rattle.lists.proofs.ChunkLaws.{chunks-more, length-chunks}
 use Rattle.lists.proofs.PartLaws.{put-more}
@@ -19,7 +19,7 @@ use Rattle.cipher.specs.Cbc.{cbcDeciphered}
 use Rattle.cipher.specs.Coding.{Set, LowSet, setOf, coded, decoded, inverted}
 use Rattle.cipher.proofs.LeaLaws.{backward-words, words-bytes, bytes-words, words-xor, words-four, block-undone}
 use Rattle.cipher.proofs.InverseLaws.{decoded-inverted, low-block}
-use Rattle.archive.specs.Blocks.{WordRows, blockOf, blockBefore, openedBlock}
+use Rattle.archive.specs.Blocks.{WordRows, blockBefore, openedBlock}
 use Rattle.archive.specs.Archive.{openedText}
 
 -- ---- one block, in words

@@ -1,9 +1,9 @@
 -- A sealed text opened block by block, by codes of its own set S and any rows: inner functions' own words for `openedText`.
 -- Assumes nothing.
 use mathlib.Core.List.{List, []}
-use Prim.Native.Nat.{ℕ, zero, suc, _*_, _^_}
-use lib.ListN.{getD, take, drop}
-use Rattle.lists.specs.Blocks.{Below, xorBlock}
+use Prim.Native.Nat.{ℕ, zero, suc, _^_}
+use lib.ListN.{getD}
+use Rattle.lists.specs.Blocks.{Below, xorBlock, blockOf}
 use Rattle.cipher.specs.Lea.{undoneRounds}
 use Rattle.cipher.specs.Coding.{Set, coded}
 
@@ -11,10 +11,7 @@ use Rattle.cipher.specs.Coding.{Set, coded}
 abbrev pub WordRows : List (List ℕ) → Type 0
 WordRows rows = (l : ℕ) → Below (2 ^ 32) (getD rows l [])
 
--- block k of a text, and what stands in front of it: the IV in front of the first
-abbrev pub blockOf : List ℕ → ℕ → List ℕ
-blockOf text k = take 16 (drop (16 * k) text)
-
+-- what stands in front of block k of a text: the IV in front of the first
 unfoldable pub blockBefore : List ℕ → List ℕ → ℕ → List ℕ
 blockBefore iv text zero = iv
 blockBefore iv text (suc k) = blockOf text k

@@ -2,7 +2,7 @@
 -- Assumes nothing.
 use mathlib.Core.Path.{_≡_}
 use mathlib.Core.List.{List, [], _∷_}
-use Prim.Native.Nat.{ℕ, zero, suc, _/_, _<_}
+use Prim.Native.Nat.{ℕ, zero, suc, _*_, _/_, _<_}
 use lib.ListN.{length, getD, take, drop, replicate}
 use lib.Bits.{bitXor}
 use Rattle.lists.specs.Tabulation.{tab}
@@ -27,6 +27,10 @@ zeros = replicate 16 0
 -- the xor of two blocks, byte by byte
 unfoldable pub xorBlock : List ℕ → List ℕ → List ℕ
 xorBlock a b = tab 16 (λ k. bitXor (getD a k 0) (getD b k 0))
+
+-- block k of l
+abbrev pub blockOf : List ℕ → ℕ → List ℕ
+blockOf l k = take 16 (drop (16 * k) l)
 
 -- the first n blocks of l
 unfoldable pub cut : ℕ → List ℕ → List (List ℕ)
