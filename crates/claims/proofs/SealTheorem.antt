@@ -59,10 +59,10 @@ module _ (key ch out held : List ℕ) (built : Built key ch out held) (hk : Byte
   unfolding codedText
   code-is = ap (λ (c : List ℕ → List ℕ). flatten (map c (blocks padded))) (pad-coded key ch valid)
 
-  code-length : length (codeOf u m) ≡ length padded
+  code-length : length (codeOf (padSet ch) m) ≡ length (paddedForSealing m)
   code-length = length-coded (setOf u) (pad-set key ch valid .codings) padded (length m / 16 + 1) (sealing-blocks m)
 
-  file-length : length (fileOf u book iv m) ≡ length padded
+  pub file-length : length (fileOf (padSet ch) (bookIn key held) iv m) ≡ length (paddedForSealing m)
   file-length =
       ap (λ (c : List ℕ). length (sealed book iv c)) code-is
       ∙ length-file (keySize key) (schedule (keySize key) key) ch book valid made (schedule-words (keySize key) key hk) iv padded (length m / 16 + 1) (sealing-blocks m)

@@ -1,0 +1,3 @@
+pub mod WayLaws
+pub mod SealWay
+pub mod TagWay

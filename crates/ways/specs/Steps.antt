@@ -1,0 +1,48 @@
+-- The steps of the two ways, in the inner functions' own words: behind a call comes its refusal or the next call, and the tag is made
+-- call by call.
+-- Assumes nothing.
+use mathlib.Core.List.{List}
+use Prim.Native.Nat.{ℕ, zero, suc, _-_, _/_}
+use lib.ListN.{length, take}
+use Rattle.lists.specs.Blocks.{blockOf}
+use Rattle.pad.specs.Answers.{sealingAnswer, tagAnswer}
+use Rattle.driver.specs.Driver.{sealAnswer, beginAnswer, blockAnswer, lastAnswer}
+use Rattle.driver.specs.declared.session.Session.{Session}
+use Rattle.archive.specs.Archive.{openAnswer, checkAnswer}
+
+-- behind a call's number: its refusal, or what comes next
+unfoldable pub next : {A : Type 0} → ℕ → (ℕ → A) → A → A
+next zero refuse go = go
+next (suc q) refuse go = refuse (suc q)
+
+-- behind the answer of a call that writes into a buffer: what comes next gets the bytes written, and leaves buffers of its own,
+-- which otherwise are as they were
+abbrev pub written : {B : Type 0} → (ℕ × ℕ) × List ℕ → B → (List ℕ → (ℕ × ℕ) × B) → (ℕ × ℕ) × (List ℕ × B)
+written a left go =
+    next (a .0 .0) (λ q. ((q, 0), (a .1, left))) ((go (take (a .0 .1) (a .1))) .0, (a .1, (go (take (a .0 .1) (a .1))) .1))
+
+-- a coded text c sealed and opened; a message coded, sealed and opened
+unfoldable pub sealedOpened : List ℕ → List ℕ → List ℕ → List ℕ → List ℕ → List ℕ → List ℕ → (ℕ × ℕ) × (List ℕ × List ℕ)
+sealedOpened key s bk iv c se out = written (sealAnswer bk iv c se) out (λ f. openAnswer key s iv f out)
+
+unfoldable pub codedOpened : List ℕ → List ℕ → List ℕ → List ℕ → List ℕ → List ℕ → List ℕ → List ℕ → List ℕ → (ℕ × ℕ) × (List ℕ × (List ℕ × List ℕ))
+codedOpened key u s bk iv m co se out = written (sealingAnswer u m co) (se, out) (λ c. sealedOpened key s bk iv c se out)
+
+-- the session behind the block calls with the first n blocks of a text, from a session s
+unfoldable pub behindBlocks : List ℕ → List ℕ → ℕ → Session → Session
+behindBlocks bk c zero s = s
+behindBlocks bk c (suc n) s = (blockAnswer bk (blockOf c n) (behindBlocks bk c n s)) .1
+
+-- what the last call answers, on the session behind n block calls
+abbrev pub lastBehind : List ℕ → List ℕ → ℕ → ℕ → Session → (ℕ × List ℕ) × Session
+lastBehind bk c k n s = lastAnswer bk (blockOf c n) k (behindBlocks bk c n s)
+
+-- the tag of a text and a kind, from a session just begun
+unfoldable pub tagBy : List ℕ → List ℕ → ℕ → List ℕ
+tagBy bk c k = (lastBehind bk c k (length c / 16 - 1) ((beginAnswer bk) .1)) .0 .1
+
+-- a message coded, tagged and checked
+unfoldable pub codedChecked : List ℕ → List ℕ → List ℕ → List ℕ → List ℕ → List ℕ → (ℕ × ℕ) × List ℕ
+codedChecked key u s bk m co =
+    let a = tagAnswer u m co in
+    next (a .0 .0) (λ q. ((q, 0), a .1)) (checkAnswer key s m (tagBy bk (take (a .0 .1 .0) (a .1)) (a .0 .1 .1)), a .1)
