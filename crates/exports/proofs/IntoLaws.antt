@@ -56,9 +56,9 @@ module _ (a : ℕ × List ℕ) (n : ℕ) (t old : List ℕ) (s held : List ℕ) 
       go (zero, v) e = absurd (h (ap (λ (p : ℕ × List ℕ). p .0) e))
       go (suc q, v) e = ap (λ (p : ℕ × List ℕ). (p .0, (p .1, held))) e
 
--- the number r and the length l that were delivered of what is told in t, beside the buffer x
-pub kept-told : (answer : (ℕ × ℕ) × List ℕ) (t : ℕ × ℕ) (x : List ℕ) (r l old : ℕ) → (r, l) ≡ told t old → (t, x) ≡ answer → ((r, l), x) ≡ kept answer old
-kept-told answer t x r l old e h = ap (λ (y : ℕ × ℕ). (y, x)) e ∙ go t ∙ ap (λ (a : (ℕ × ℕ) × List ℕ). kept a old) h
+-- the number r and the number l that were delivered of what is told in t, beside what x is in the buffers
+pub kept-told : {B : Type 0} (answer : (ℕ × ℕ) × B) (t : ℕ × ℕ) (x : B) (r l old : ℕ) → (r, l) ≡ told t old → (t, x) ≡ answer → ((r, l), x) ≡ kept answer old
+kept-told {B} answer t x r l old e h = ap (λ (y : ℕ × ℕ). (y, x)) e ∙ go t ∙ ap (λ (a : (ℕ × ℕ) × B). kept a old) h
   where
     go : (t : ℕ × ℕ) → (told t old, x) ≡ kept (t, x) old
     go (zero, v) = refl

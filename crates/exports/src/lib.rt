@@ -1,5 +1,6 @@
 // The C interface, for C, Rust and the benchmarks; include/bowlinette.h declares the same. Every
 // function answers 0, or the number of a refusal, in which case nothing behind a pointer has changed.
+// The last three are not in the header: one is for the benchmark, two are for the tests.
 ghost use mathlib.Core.Path.{_≡_};
 ghost use Rattle.exports.specs.Chain.{chainAnswer};
 ghost use Rattle.cipher.specs.Answers.{blockTold, encipherAnswer, decipherAnswer, roundsAnswer, rowAnswer, setChecked, chainChecked};
@@ -9,6 +10,7 @@ ghost use Rattle.book.specs.Answers.{buildAnswer, roundAnswer};
 ghost use Rattle.pad.specs.Answers.{sealingAnswer, tagAnswer};
 ghost use Rattle.driver.specs.Driver as D;
 ghost use Rattle.archive.specs.Archive as R;
+ghost use Rattle.ways.specs.Ways.{tagWay, sealWay};
 use archive::check::Checked;
 use cipher::lea::BlockAnswer;
 use cipher::refusal::Refusal;
@@ -42,6 +44,23 @@ fn deliver_length(w: Written, length: &mut u64) -> u32
             0
         }
         Written::Refused(why) => why.number(),
+    }
+}
+
+// A verdict into valid, 1 for Valid, 0 for Invalid, and the number.
+fn deliver_verdict(c: Checked, valid: &mut u8) -> u32
+    ensures { λ r. ⌜ (r, now (valid .exit)) ≡ told (R.checkedTold c) (now (valid .entry)) ⌝ }
+{
+    match c {
+        Checked::Valid => {
+            *valid = 1;
+            0
+        }
+        Checked::Invalid => {
+            *valid = 0;
+            0
+        }
+        Checked::Refused(why) => why.number(),
     }
 }
 
@@ -229,17 +248,7 @@ pub extern "C" fn bowlinette_check(
 ) -> u32
     ensures { λ r. ⌜ (r, now (valid .exit)) ≡ told (R.checkAnswer (now (key .entry)) (now (set .entry)) (now (message .entry)) (now (tag .entry))) (now (valid .entry)) ⌝ }
 {
-    match archive::check::check(key, set, message, tag) {
-        Checked::Valid => {
-            *valid = 1;
-            0
-        }
-        Checked::Invalid => {
-            *valid = 0;
-            0
-        }
-        Checked::Refused(why) => why.number(),
-    }
+    deliver_verdict(archive::check::check(key, set, message, tag), valid)
 }
 
 // For the benchmark: the chaining value of CMAC after the whole blocks of a text, into out.
@@ -255,4 +264,42 @@ pub extern "C" fn bowlinette_bench_chain(key: &[u8], text: &[u8], out: &mut [u8;
     let b = cipher::word::bytes(x);
     *out = b;
     0
+}
+
+// For the tests: the way of a tag, the verdict into valid. Book and coded are scratch, of which a
+// refusal leaves what the calls before it wrote.
+#[no_mangle]
+pub extern "C" fn bowlinette_tag_way(
+    key: &[u8],
+    chain: &[u8],
+    message: &[u8],
+    book: &mut [u8],
+    coded: &mut [u8],
+    valid: &mut u8,
+) -> u32
+    ensures { λ r. ⌜ ((r, now (valid .exit)), (now (book .exit), now (coded .exit))) ≡ kept (tagWay (now (key .entry)) (now (chain .entry)) (now (message .entry)) (now (book .entry)) (now (coded .entry))) (now (valid .entry)) ⌝ }
+{
+    deliver_verdict(ways::tag::tag_way(key, chain, message, book, coded), valid)
+}
+
+// For the tests: the way of a sealed file, the message into the front of out, and its length into
+// length. Book, coded and sealed are scratch, of which a refusal leaves what the calls before it wrote.
+#[no_mangle]
+pub extern "C" fn bowlinette_seal_way(
+    key: &[u8],
+    chain: &[u8],
+    iv: &[u8],
+    message: &[u8],
+    book: &mut [u8],
+    coded: &mut [u8],
+    sealed: &mut [u8],
+    out: &mut [u8],
+    length: &mut u64,
+) -> u32
+    ensures { λ r. ⌜ ((r, now (length .exit)), (now (book .exit), now (coded .exit), now (sealed .exit), now (out .exit))) ≡ kept (sealWay (now (key .entry)) (now (chain .entry)) (now (iv .entry)) (now (message .entry)) (now (book .entry)) (now (coded .entry)) (now (sealed .entry)) (now (out .entry))) (now (length .entry)) ⌝ }
+{
+    deliver_length(
+        ways::seal::seal_way(key, chain, iv, message, book, coded, sealed, out),
+        length,
+    )
 }

@@ -1,5 +1,6 @@
-//! The functions of include/bowlinette.h for Rust, over slices. Each returns 0, or the number of a
-//! refusal, in which case what it may write to is as it was.
+//! The functions of include/bowlinette.h for Rust, over slices, and three that are not in it. Each
+//! returns 0, or the number of a refusal, in which case what it may write to is as it was; but for
+//! the two ways, which have scratch buffers.
 
 mod c {
     extern "C" {
@@ -150,6 +151,38 @@ mod c {
             tag: *const u8,
             tag_length: usize,
             valid: *mut u8,
+        ) -> u32;
+        pub fn bowlinette_tag_way(
+            key: *const u8,
+            key_length: usize,
+            chain: *const u8,
+            chain_length: usize,
+            message: *const u8,
+            message_length: usize,
+            book: *mut u8,
+            book_length: usize,
+            coded: *mut u8,
+            coded_length: usize,
+            valid: *mut u8,
+        ) -> u32;
+        pub fn bowlinette_seal_way(
+            key: *const u8,
+            key_length: usize,
+            chain: *const u8,
+            chain_length: usize,
+            iv: *const u8,
+            iv_length: usize,
+            message: *const u8,
+            message_length: usize,
+            book: *mut u8,
+            book_length: usize,
+            coded: *mut u8,
+            coded_length: usize,
+            sealed: *mut u8,
+            sealed_length: usize,
+            out: *mut u8,
+            out_length: usize,
+            length: *mut u64,
         ) -> u32;
     }
 }
@@ -455,6 +488,67 @@ pub fn check(key: &[u8], set: &[u8], message: &[u8], tag: &[u8], valid: &mut u8)
             tag.as_ptr(),
             tag.len(),
             valid,
+        )
+    }
+}
+
+/// The way of a tag, the verdict into valid. Not in the header, as the next one: both are there for
+/// the tests, and a refusal leaves in the scratch buffers what the calls before it wrote.
+#[inline]
+pub fn tag_way(
+    key: &[u8],
+    chain: &[u8],
+    message: &[u8],
+    [book, coded]: &mut [Vec<u8>; 2],
+    valid: &mut u8,
+) -> u32 {
+    unsafe {
+        c::bowlinette_tag_way(
+            key.as_ptr(),
+            key.len(),
+            chain.as_ptr(),
+            chain.len(),
+            message.as_ptr(),
+            message.len(),
+            book.as_mut_ptr(),
+            book.len(),
+            coded.as_mut_ptr(),
+            coded.len(),
+            valid,
+        )
+    }
+}
+
+/// The way of a sealed file: the message to the front of the last buffer, and its length, into
+/// length.
+#[inline]
+pub fn seal_way(
+    key: &[u8],
+    chain: &[u8],
+    iv: &[u8],
+    message: &[u8],
+    [book, coded, sealed, out]: &mut [Vec<u8>; 4],
+    length: &mut u64,
+) -> u32 {
+    unsafe {
+        c::bowlinette_seal_way(
+            key.as_ptr(),
+            key.len(),
+            chain.as_ptr(),
+            chain.len(),
+            iv.as_ptr(),
+            iv.len(),
+            message.as_ptr(),
+            message.len(),
+            book.as_mut_ptr(),
+            book.len(),
+            coded.as_mut_ptr(),
+            coded.len(),
+            sealed.as_mut_ptr(),
+            sealed.len(),
+            out.as_mut_ptr(),
+            out.len(),
+            length,
         )
     }
 }

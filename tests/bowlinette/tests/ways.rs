@@ -1,0 +1,266 @@
+//! The two ways of a message through all parts, on the proved library: what is tagged is Valid, what
+//! is sealed comes back, and every byte of the buffers is what the reference leaves call by call,
+//! after each refusal too.
+
+#[path = "shared/chains.rs"]
+mod chains;
+#[path = "shared/random.rs"]
+mod random;
+
+use random::Random;
+use reference::chain::{CODING, MIDDLES, SET};
+use reference::pad::{BLOCK, LONGEST};
+use reference::{book, driver, pad, refusal, Size};
+
+/// What buffers, lengths and verdicts hold before a call.
+const FILL: u8 = 0xa5;
+const LENGTH: u64 = 0x5a5a_5a5a_5a5a_5a5a;
+
+/// What a way is given, and the lengths of its buffers: book, code, sealed file, message.
+#[derive(Clone)]
+struct Given<'a> {
+    key: Vec<u8>,
+    chain: Vec<u8>,
+    iv: Vec<u8>,
+    message: &'a [u8],
+    rooms: [usize; 4],
+}
+
+/// What a way leaves: its number, what it told, and its buffers.
+#[derive(PartialEq)]
+struct Left<T, const N: usize> {
+    number: u32,
+    told: T,
+    buffers: [Vec<u8>; N],
+}
+
+impl<'a> Given<'a> {
+    /// Key, chain and IV by chance, and buffers with so many bytes more than both ways need.
+    fn new(size: Size, message: &'a [u8], more: usize, random: &mut Random) -> Given<'a> {
+        let code = message.len() / BLOCK * BLOCK + BLOCK;
+        Given {
+            key: random.bytes(size.key_bytes()),
+            chain: chains::valid(size, random),
+            iv: random.bytes(BLOCK),
+            message,
+            rooms: [size.book_bytes(), code, code, code].map(|n| n + more),
+        }
+    }
+
+    fn buffers<const N: usize>(&self) -> [Vec<u8>; N] {
+        std::array::from_fn(|k| vec![FILL; self.rooms[k]])
+    }
+
+    /// The way of a tag: the number. All that is left must be as due.
+    fn tagged(&self) -> u32 {
+        let (mut buffers, mut told) = (self.buffers(), FILL);
+        let number = bowlinette::tag_way(
+            &self.key,
+            &self.chain,
+            self.message,
+            &mut buffers,
+            &mut told,
+        );
+        let left = Left {
+            number,
+            told,
+            buffers,
+        };
+        assert!(left == self.tag_due(), "{}: {number}", self.lengths());
+        number
+    }
+
+    /// The way of a sealed file, as that of a tag.
+    fn sealed(&self) -> u32 {
+        let (mut buffers, mut told) = (self.buffers(), LENGTH);
+        let (key, chain, iv) = (&self.key, &self.chain, &self.iv);
+        let number = bowlinette::seal_way(key, chain, iv, self.message, &mut buffers, &mut told);
+        let left = Left {
+            number,
+            told,
+            buffers,
+        };
+        assert!(left == self.seal_due(), "{}: {number}", self.lengths());
+        number
+    }
+
+    /// What the way of a tag must leave: the book, the code, and Valid.
+    fn tag_due(&self) -> Left<u8, 2> {
+        let mut buffers = self.buffers();
+        let [book, coded] = &mut buffers;
+        let written = || -> Result<(), u32> {
+            book::build(&self.key, &self.chain, book)?;
+            pad::code_for_tag(&self.chain[..SET], self.message, coded)?;
+            Ok(())
+        }();
+        Left {
+            number: written.err().unwrap_or(0),
+            told: written.map_or(FILL, |()| 1),
+            buffers,
+        }
+    }
+
+    /// What the way of a sealed file must leave: the book, the code, the sealed file, the message.
+    fn seal_due(&self) -> Left<u64, 4> {
+        let mut buffers = self.buffers();
+        let [book, coded, sealed, out] = &mut buffers;
+        let written = || -> Result<(), u32> {
+            book::build(&self.key, &self.chain, book)?;
+            let n = pad::code_for_sealing(&self.chain[..SET], self.message, coded)?;
+            let length = Size::of_key(self.key.len()).unwrap().book_bytes();
+            driver::seal(&book[..length], &self.iv, &coded[..n], sealed)?;
+            let room = out.get_mut(..n).ok_or(refusal::SHORT_OUTPUT)?;
+            room[..self.message.len()].copy_from_slice(self.message);
+            Ok(())
+        }();
+        Left {
+            number: written.err().unwrap_or(0),
+            told: written.map_or(LENGTH, |()| self.message.len() as u64),
+            buffers,
+        }
+    }
+
+    fn lengths(&self) -> String {
+        let (key, chain, iv) = (self.key.len(), self.chain.len(), self.iv.len());
+        let (message, rooms) = (self.message.len(), self.rooms);
+        format!("key {key}, chain {chain}, IV {iv}, message {message}, buffers {rooms:?}")
+    }
+}
+
+/// A number below a bound, by chance.
+fn below(random: &mut Random, bound: usize) -> usize {
+    let two = random.bytes(2).try_into().unwrap();
+    usize::from(u16::from_le_bytes(two)) % bound
+}
+
+/// The named lengths, and some by chance.
+#[test]
+fn messages_that_are_not_refused() {
+    let mut random = Random(110);
+    let bytes = random.bytes(LONGEST);
+    for size in Size::ALL {
+        let mut lengths = vec![0, 1, 15, 16, 17, 9_412, LONGEST];
+        lengths.extend((0..30).map(|_| below(&mut random, 3_000)));
+        for n in lengths {
+            let more = [0, 1, 16, 100][below(&mut random, 4)];
+            let given = Given::new(size, &bytes[LONGEST - n..], more, &mut random);
+            assert_eq!(given.tagged(), 0, "{}", given.lengths());
+            assert_eq!(given.sealed(), 0, "{}", given.lengths());
+        }
+    }
+}
+
+/// One thing made wrong, in the order in which the ways meet them.
+#[derive(Clone, Copy)]
+enum Wrong {
+    Key(usize),
+    ChainLength(usize),
+    Coding,
+    Word,
+    Mask,
+    Book(usize),
+    Message,
+    Code(usize),
+    Iv(usize),
+    Sealed(usize),
+    Out(usize),
+}
+
+impl Wrong {
+    /// Makes it so: its number.
+    fn make<'a>(self, size: Size, long: &'a [u8], given: &mut Given<'a>) -> u32 {
+        let cut = |room: &mut usize, by: usize| *room -= by.min(*room);
+        match self {
+            Wrong::Key(n) => given.key.resize(n, 7),
+            Wrong::ChainLength(n) => given.chain.resize(n, 0),
+            Wrong::Coding => given.chain[SET + 5] = given.chain[SET + 6],
+            // word 3 of set 1, which is to be word 0 of set 0
+            Wrong::Word => given
+                .chain
+                .swap(2 * SET + 24 * CODING, 2 * SET + 24 * CODING + 1),
+            Wrong::Mask => given.chain[SET * (size.rounds() + 2) + MIDDLES * CODING] = 1,
+            Wrong::Book(by) => cut(&mut given.rooms[0], by),
+            Wrong::Message => given.message = long,
+            Wrong::Code(by) => cut(&mut given.rooms[1], by),
+            Wrong::Iv(n) => given.iv.resize(n, 7),
+            Wrong::Sealed(by) => cut(&mut given.rooms[2], by),
+            Wrong::Out(by) => cut(&mut given.rooms[3], by),
+        }
+        match self {
+            Wrong::Key(_) => 1,
+            Wrong::ChainLength(_) => 2,
+            Wrong::Coding => 3,
+            Wrong::Word => 4,
+            Wrong::Mask => 5,
+            Wrong::Iv(_) => 7,
+            Wrong::Message => 8,
+            Wrong::Book(_) | Wrong::Code(_) | Wrong::Sealed(_) | Wrong::Out(_) => 9,
+        }
+    }
+
+    /// Whether the way of a tag does not meet it.
+    fn is_of_sealing(self) -> bool {
+        matches!(self, Wrong::Iv(_) | Wrong::Sealed(_) | Wrong::Out(_))
+    }
+}
+
+/// Each refusal by itself, of both ways.
+#[test]
+fn each_refusal() {
+    let mut random = Random(111);
+    let long = random.bytes(LONGEST + 1);
+    for size in Size::ALL {
+        let chain = size.chain_bytes();
+        let mut wrongs = vec![Wrong::Coding, Wrong::Word, Wrong::Mask, Wrong::Message];
+        wrongs.extend([0, 1, 15, 17, 33, 272].map(Wrong::Key));
+        wrongs.extend([0, SET, chain - 1, chain + 1].map(Wrong::ChainLength));
+        wrongs.extend([0, 1, 15, 17, 272].map(Wrong::Iv));
+        for by in [1, 16, usize::MAX] {
+            let short = [Wrong::Book, Wrong::Code, Wrong::Sealed, Wrong::Out];
+            wrongs.extend(short.map(|wrong| wrong(by)));
+        }
+        for wrong in wrongs {
+            for n in [0, 1, 40] {
+                let mut given = Given::new(size, &long[..n], 0, &mut random);
+                let number = wrong.make(size, &long, &mut given);
+                let tagged = if wrong.is_of_sealing() { 0 } else { number };
+                assert_eq!(given.sealed(), number, "{}", given.lengths());
+                assert_eq!(given.tagged(), tagged, "{}", given.lengths());
+            }
+        }
+    }
+}
+
+/// Any of them together: the first in the order of the calls is refused.
+#[test]
+fn the_first_refusal_decides() {
+    let mut random = Random(112);
+    let long = random.bytes(LONGEST + 1);
+    let wrongs = [
+        Wrong::Key(20),
+        Wrong::Word,
+        Wrong::Mask,
+        Wrong::Book(1),
+        Wrong::Message,
+        Wrong::Code(1),
+        Wrong::Iv(17),
+        Wrong::Sealed(1),
+        Wrong::Out(1),
+    ];
+    let right = Size::ALL.map(|size| Given::new(size, &long[..40], 0, &mut random));
+    for set in 0..1 << wrongs.len() {
+        let size = Size::ALL[set % 3];
+        let (mut given, mut met) = (right[set % 3].clone(), Vec::new());
+        for (k, wrong) in wrongs.into_iter().enumerate() {
+            if set >> k & 1 == 1 {
+                let number = wrong.make(size, &long, &mut given);
+                met.push((number, wrong.is_of_sealing()));
+            }
+        }
+        let sealed = met.first().map_or(0, |&(number, _)| number);
+        let tagged = met.iter().find(|(_, of_sealing)| !of_sealing);
+        let tagged = tagged.map_or(0, |&(number, _)| number);
+        assert_eq!(given.sealed(), sealed, "{}", given.lengths());
+        assert_eq!(given.tagged(), tagged, "{}", given.lengths());
+    }
+}
