@@ -106,6 +106,18 @@ impl Product {
     fn check(&self, message: &[u8], tag: &[u8]) -> Result<bool, u32> {
         check(&self.key, &self.set, message, tag)
     }
+
+    /// A tag is Valid, and with any one bit changed Invalid.
+    fn only_valid(&self, message: &[u8], tag: &Block) {
+        let given = (self.key.len(), message.len());
+        assert_eq!(self.check(message, tag), Ok(true), "{given:?}");
+        for bit in 0..128 {
+            let mut other = *tag;
+            other[bit / 8] ^= 1 << (bit % 8);
+            let told = self.check(message, &other);
+            assert_eq!(told, Ok(false), "{given:?}, bit {bit}");
+        }
+    }
 }
 
 /// What is no session before it has begun.
@@ -164,13 +176,7 @@ fn tags_are_valid_for_their_message_alone() {
         for n in lengths(&mut random) {
             let message = random.bytes(n);
             let tag = product.tag(&message);
-            assert_eq!(product.check(&message, &tag), Ok(true), "{size:?}, {n}");
-            for bit in 0..128 {
-                let mut other = tag;
-                other[bit / 8] ^= 1 << (bit % 8);
-                let told = product.check(&message, &other);
-                assert_eq!(told, Ok(false), "{size:?}, {n} bytes, bit {bit}");
-            }
+            product.only_valid(&message, &tag);
             for other in others(&message, &mut random) {
                 let told = product.check(&other, &tag);
                 assert_eq!(told, Ok(false), "{size:?}, {n} bytes, now {}", other.len());
@@ -179,7 +185,7 @@ fn tags_are_valid_for_their_message_alone() {
     }
 }
 
-/// The longest message has a tag that is Valid; one byte more is refused.
+/// The longest message has a tag that is Valid, and no other a bit away is; one byte more is refused.
 #[test]
 fn the_longest_messages() {
     let mut random = Random(92);
@@ -187,7 +193,7 @@ fn the_longest_messages() {
         let product = Product::new(size, &mut random);
         let mut message = random.bytes(LONGEST);
         let tag = product.tag(&message);
-        assert_eq!(product.check(&message, &tag), Ok(true), "{size:?}");
+        product.only_valid(&message, &tag);
         for at in [0, LONGEST / 2, LONGEST - 1] {
             message[at] ^= 0x10;
             assert_eq!(product.check(&message, &tag), Ok(false), "{size:?}, {at}");
