@@ -24,16 +24,17 @@ use Rattle.cipher.proofs.BookLaw.{book-size, book-made}
 use Rattle.book.specs.Answers.{builtInto}
 use Rattle.claims.specs.Built.{Built, bookIn, keyRounds}
 
--- an answer 0 is no refusal's
-not-refused : (ts : List (Bool × ℕ)) (out x y : List ℕ) → Numbered ts → _≡_ {A = ℕ × List ℕ} (first ts (λ n. (n, out)) (0, x)) (0, y) → Clear ts × (x ≡ y)
-unfolding first
-not-refused [] out x y n e = (tt, ap (λ (r : ℕ × List ℕ). r .1) e)
-not-refused (t ∷ ts) out x y n e = go (t .0) refl (not-refused ts out x y (n .1)) e
-  where
-    go : (b : Bool) → t .0 ≡ b → (_≡_ {A = ℕ × List ℕ} (first ts (λ n. (n, out)) (0, x)) (0, y) → Clear ts × (x ≡ y))
-        → _≡_ {A = ℕ × List ℕ} (cond b (t .1, out) (first ts (λ n. (n, out)) (0, x))) (0, y) → ((t .0 ≡ false) × Clear ts) × (x ≡ y)
-    go true d k h = let q : t .1 ≡ 0 = ap (λ (r : ℕ × List ℕ). r .0) h in absurd (omega (arith, n .0))
-    go false d k h = let p = k h in ((d, p .0), p .1)
+-- an answer of which the number is 0 is no refusal's
+module _ {A : Type 0} (number : A → ℕ) (refuse : ℕ → A) (e : (q : ℕ) → number (refuse q) ≡ q) (go : A) where
+  pub not-refused : (ts : List (Bool × ℕ)) → Numbered ts → number (first ts refuse go) ≡ 0 → Clear ts × (first ts refuse go ≡ go)
+  unfolding first
+  not-refused [] n h = (tt, refl)
+  not-refused (t ∷ ts) n h = each (t .0) refl (not-refused ts (n .1)) h
+    where
+      each : (b : Bool) → t .0 ≡ b → (number (first ts refuse go) ≡ 0 → Clear ts × (first ts refuse go ≡ go))
+          → number (cond b (refuse (t .1)) (first ts refuse go)) ≡ 0 → ((t .0 ≡ false) × Clear ts) × (cond b (refuse (t .1)) (first ts refuse go) ≡ go)
+      each true d k h = let q : t .1 ≡ 0 = sym (e (t .1)) ∙ h in absurd (omega (arith, n .0))
+      each false d k h = let p = k h in ((d, p .0), p .1)
 
 clear-front : (a b : List (Bool × ℕ)) → Clear (a ++ b) → Clear a
 clear-front [] b c = tt
@@ -63,8 +64,9 @@ module _ (key ch out held : List ℕ) (built : Built key ch out held) where
       × (book ++ drop (bookLength (keySize key)) out ≡ held)
   unfolding builtInto
   parts =
-      not-refused (keyTests key ++ (chainTests (keySize key) ch ++ roomTests (bookLength (keySize key)) out)) out
-      (book ++ drop (bookLength (keySize key)) out) held numbered built
+      let p = not-refused (λ (r : ℕ × List ℕ). r .0) (λ n. (n, out)) (λ q. refl) (0, book ++ drop (bookLength (keySize key)) out)
+      (keyTests key ++ (chainTests (keySize key) ch ++ roomTests (bookLength (keySize key)) out)) numbered (ap (λ (r : ℕ × List ℕ). r .0) built) in
+      (p .0, ap (λ (r : ℕ × List ℕ). r .1) (sym (p .1) ∙ built))
 
   pub built-size : sizeOfKey (length key) ≡ Found (keySize key)
   built-size = size-known (length key) (parts .0 .0)
