@@ -1,3 +1,4 @@
 pub mod WayLaws
 pub mod SealWay
 pub mod TagWay
+pub mod Unrefused

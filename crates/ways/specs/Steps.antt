@@ -1,14 +1,30 @@
--- The steps of the two ways, in the inner functions' own words: behind a call comes its refusal or the next call, and the tag is made
--- call by call.
+-- The steps of the two ways, in the inner functions' own words: both begin with a book; behind a call comes its refusal or the next
+-- call; the tag is made call by call.
 -- Assumes nothing.
 use mathlib.Core.List.{List}
 use Prim.Native.Nat.{ℕ, zero, suc, _-_, _/_}
 use lib.ListN.{length, take}
 use Rattle.lists.specs.Blocks.{blockOf}
+use Rattle.lists.specs.Refusals.{first}
+use Rattle.cipher.specs.Answers.{keySize}
+use Rattle.cipher.specs.Refusal.{numberOf}
+use Rattle.cipher.specs.declared.size.KeySize.{KeySize}
+use Rattle.cipher.specs.declared.size.KeySize.the-variants.{Bytes16}
 use Rattle.pad.specs.Answers.{sealingAnswer, tagAnswer}
 use Rattle.driver.specs.Driver.{sealAnswer, beginAnswer, blockAnswer, lastAnswer}
 use Rattle.driver.specs.declared.session.Session.{Session}
 use Rattle.archive.specs.Archive.{openAnswer, checkAnswer}
+use Rattle.ways.specs.Ways.{keyBook, over, buildTests}
+use Rattle.ways.specs.declared.start.Started.{Started}
+use Rattle.ways.specs.declared.start.Started.the-variants as S
+
+-- the start of both: a book in the front of its buffer, and the size of the key; the size stands for nothing where there is none
+abbrev pub startTold : Started → ℕ × KeySize
+startTold (S.Built z) = (0, z)
+startTold (S.Refused q) = (numberOf q, Bytes16)
+
+unfoldable pub startAnswer : List ℕ → List ℕ → List ℕ → (ℕ × KeySize) × List ℕ
+startAnswer key ch bk = first (buildTests key ch bk) (λ q. ((q, Bytes16), bk)) ((0, keySize key), over (keyBook key ch) bk)
 
 -- behind a call's number: its refusal, or what comes next
 unfoldable pub next : {A : Type 0} → ℕ → (ℕ → A) → A → A

@@ -3,13 +3,11 @@ ghost use mathlib.Core.Path.{_≡_};
 ghost use Rattle.cipher.specs.Refusal.{writtenOf};
 ghost use Rattle.ways.specs.Steps.{sealedOpened, codedOpened};
 ghost use Rattle.ways.specs.Ways.{sealWay};
+use crate::start::Started;
+use crate::start::start;
 use archive::open::open;
-use book::build::build;
-use cipher::refusal::Outcome;
-use cipher::refusal::Refusal;
 use cipher::refusal::Written;
 use cipher::size::KeySize;
-use cipher::size::SizeFound;
 use driver::seal::seal;
 use pad::code::code_for_sealing;
 
@@ -66,24 +64,23 @@ pub fn seal_way(
 ) -> Written
     ensures { λ r. ⌜ (writtenOf r, (now (book .exit), now (coded .exit), now (sealed .exit), now (out .exit))) ≡ sealWay (now (key .entry)) (now (chain .entry)) (now (iv .entry)) (now (message .entry)) (now (book .entry)) (now (coded .entry)) (now (sealed .entry)) (now (out .entry)) ⌝ }
 {
-    if let Outcome::Refused(why) = build(key, chain, book) {
-        return Written::Refused(why);
+    match start(key, chain, book) {
+        Started::Refused(why) => Written::Refused(why),
+        Started::Built(size) => {
+            let u = &chain[0..KeySize::SET];
+            let last = KeySize::SET * (size.rounds() + 1);
+            let set = &chain[last..last + KeySize::SET];
+            code_open(
+                key,
+                u,
+                set,
+                &book[0..size.book_len()],
+                iv,
+                message,
+                coded,
+                sealed,
+                out,
+            )
+        }
     }
-    let SizeFound::Found(size) = KeySize::of_key_len(key.len()) else {
-        return Written::Refused(Refusal::KeyLength);
-    };
-    let u = &chain[0..KeySize::SET];
-    let last = KeySize::SET * (size.rounds() + 1);
-    let set = &chain[last..last + KeySize::SET];
-    code_open(
-        key,
-        u,
-        set,
-        &book[0..size.book_len()],
-        iv,
-        message,
-        coded,
-        sealed,
-        out,
-    )
 }

@@ -5,13 +5,11 @@ ghost use lib.ListN.{length};
 ghost use Rattle.archive.specs.Archive.{checkedTold};
 ghost use Rattle.ways.specs.Steps.{behindBlocks, tagBy, codedChecked};
 ghost use Rattle.ways.specs.Ways.{tagWay};
+use crate::start::Started;
+use crate::start::start;
 use archive::check::Checked;
 use archive::check::check;
-use book::build::build;
-use cipher::refusal::Outcome;
-use cipher::refusal::Refusal;
 use cipher::size::KeySize;
-use cipher::size::SizeFound;
 use driver::session::Session;
 use driver::session::begin;
 use driver::session::block_call;
@@ -82,14 +80,13 @@ pub fn tag_way(
 ) -> Checked
     ensures { λ r. ⌜ (checkedTold r, (now (book .exit), now (coded .exit))) ≡ tagWay (now (key .entry)) (now (chain .entry)) (now (message .entry)) (now (book .entry)) (now (coded .entry)) ⌝ }
 {
-    if let Outcome::Refused(why) = build(key, chain, book) {
-        return Checked::Refused(why);
+    match start(key, chain, book) {
+        Started::Refused(why) => Checked::Refused(why),
+        Started::Built(size) => {
+            let u = &chain[0..KeySize::SET];
+            let last = KeySize::SET * (size.rounds() + 1);
+            let set = &chain[last..last + KeySize::SET];
+            code_check(key, u, set, &book[0..size.book_len()], message, coded)
+        }
     }
-    let SizeFound::Found(size) = KeySize::of_key_len(key.len()) else {
-        return Checked::Refused(Refusal::KeyLength);
-    };
-    let u = &chain[0..KeySize::SET];
-    let last = KeySize::SET * (size.rounds() + 1);
-    let set = &chain[last..last + KeySize::SET];
-    code_check(key, u, set, &book[0..size.book_len()], message, coded)
 }

@@ -9,7 +9,7 @@ use Rattle.lists.proofs.BlockLaws.{bytes-of}
 use Rattle.cipher.proofs.KeySizeLaws.{rounds-le}
 use Rattle.ways.specs.Ways.{keyBook, over, tagWay}
 use Rattle.ways.specs.Steps.{codedChecked}
-use Rattle.ways.proofs.WayLaws.{build-done, held-done, build-refused, build-clear, size-known, sets-fit, cut-set, book-fits, cut-book}
+use Rattle.ways.proofs.WayLaws.{way-refused, way-done, held-is, way-built, sets-fit, cut-set, book-fits, cut-book}
 use Rattle.ways.proofs.TagWay.{coded-checked}
 use Rattle.ways.proofs.tag.tag_way.Statement.{statement}
 use Rattle.ways.proofs.tag.tag_way.Tie as tie
@@ -18,16 +18,10 @@ returns : tie.Need-returns
 unfolding tagWay
 returns c =
     let a = c .before .before .before .before .before .before .before .before .before .before .before .before .args in
-    build-refused _ _ _ _ _ (c .before .before .before .before .before .build .ensures) _ (c .before .why .given .1) (λ b q. ((q, 0), (b, a .coded .now))) _
-
-returns-2 : tie.Need-returns-2
-returns-2 c =
-    absurd (size-known _ _ _ _ (build-done _ _ _ _ _ (c .before .before .before .before .before .before .before .build .ensures) (c .before .before .before .enum-told .given .1)) (sym (c .before .before .of-key-len .ensures) ∙ c .enum-told2 .given .1))
+    way-refused _ _ _ _ _ (c .before .before .before .before .before .start .ensures) (λ b q. ((q, 0), (b, a .coded .now))) _ _ (c .before .why .given .1)
 
 part-u-end : tie.Need-part-u-end
-part-u-end c =
-    let t = build-done _ _ _ _ _ (c .before .before .before .before .before .before .before .before .build .ensures) (c .before .before .before .before .enum-told .given .1) in
-    omega (arith, sets-fit _ _ _ _ t _ (sym (c .before .before .before .of-key-len .ensures) ∙ c .before .size .given .1) _ refl)
+part-u-end c = omega (arith, sets-fit _ _ _ _ _ (c .before .before .before .before .before .start .ensures) _ (c .before .size .given .1) _ refl)
 
 add-last : tie.Need-add-last
 add-last c = omega (arith, c .rounds .ensures, rounds-le (c .before .before .before .size .given .0 .0))
@@ -39,33 +33,27 @@ add-set : tie.Need-add-set
 add-set c = omega (arith, c .rounds .ensures, rounds-le (c .before .before .before .size .given .0 .0))
 
 part-set-end : tie.Need-part-set-end
-part-set-end c =
-    let t = build-done _ _ _ _ _ (c .before .before .before .before .before .before .before .before .before .before .build .ensures) (c .before .before .before .before .before .before .enum-told .given .1) in
-    omega (arith, sets-fit _ _ _ _ t _ (sym (c .before .before .before .before .before .of-key-len .ensures) ∙ c .before .before .before .size .given .1) _ (c .rounds .ensures))
+part-set-end c = omega (arith, sets-fit _ _ _ _ _ (c .before .before .before .before .before .before .before .start .ensures) _ (c .before .before .before .size .given .1) _ (c .rounds .ensures))
 
 part-code-check-end : tie.Need-part-code-check-end
-part-code-check-end c =
-    let t = build-done _ _ _ _ _ (c .before .before .before .before .before .before .before .before .before .before .before .before .before .build .ensures) (c .before .before .before .before .before .before .before .before .before .enum-told .given .1) in
-    omega (arith, book-fits _ _ _ _ t _ (sym (c .before .before .before .before .before .before .before .before .of-key-len .ensures) ∙ c .before .before .before .before .before .before .size .given .1) _ (c .before .book-len .ensures))
+part-code-check-end c = omega (arith, book-fits _ _ _ _ _ (c .before .before .before .before .before .before .before .before .before .before .start .ensures) _ (c .before .before .before .before .before .before .size .given .1) _ (c .before .book-len .ensures))
 
-returns-3 : tie.Need-returns-3
+returns-2 : tie.Need-returns-2
 unfolding tagWay
-returns-3 c =
-    let p = c .before .before .before .before .before .before .before .before .before .before .before .before .before .before .before .before .before .before .before .before .before .before in
-    let a = p .before .before .before .args in
-    let m = a .message .now in
-    let e = c .before .before .before .before .before .before .before .before .before .before .before .before .before .before .before .before .before .before .build .ensures in
-    let d = c .before .before .before .before .before .before .before .before .before .before .before .before .before .before .enum-told .given .1 in
-    let t = build-done _ _ _ _ _ e d in
-    let f = sym (c .before .before .before .before .before .before .before .before .before .before .before .before .before .of-key-len .ensures) ∙ c .before .before .before .before .before .before .before .before .before .before .before .size .given .1 in
-    let s = cut-set _ _ _ _ t _ f _ (c .before .before .before .before .before .before .before .before .rounds .ensures) in
-    let b = cut-book _ _ _ _ t _ f _ (c .before .before .before .before .before .before .book-len .ensures) in
+returns-2 c =
+    let k = c .before .before .before .before .before .before .before .before .before .before in
+    let a = k .before .before .before .before .before .before .before .before .before .before .before .before .args in
+    let e = k .before .before .before .before .before .start .ensures in
+    let d = k .before .size .given .1 in
+    let s = cut-set _ _ _ _ _ e _ d _ (c .before .before .before .before .before .before .before .before .rounds .ensures) in
+    let b = cut-book _ _ _ _ _ e _ d _ (c .before .before .before .before .before .before .book-len .ensures) in
     let w : (ℕ × ℕ) × List ℕ → (ℕ × ℕ) × (List ℕ × List ℕ) = λ o. (o .0, (over (keyBook (a .key .now) (a .chain .now)) (a .book .now), o .1)) in
     let o = c .before .before .code-check .ensures in
-    (λ i. ((o i) .0, (held-done _ _ _ _ _ e d i, (o i) .1)))
-    ∙ (λ i. w (codedChecked (a .key .now) (take 512 (a .chain .now)) (s i) (b i) m (a .coded .now)))
-    ∙ coded-checked _ _ _ _ t m (a .coded .now) (bytes-of m (λ j h. omega (arith, p .shared-slice-known3 .given j))) w
-    ∙ sym (build-clear _ _ _ _ _ e _ _ d)
+    (λ i. ((o i) .0, (held-is _ _ _ _ _ e _ d i, (o i) .1)))
+    ∙ (λ i. w (codedChecked (a .key .now) (take 512 (a .chain .now)) (s i) (b i) (a .message .now) (a .coded .now)))
+    ∙ coded-checked _ _ _ _ (way-built _ _ _ _ _ e _ d) (a .message .now) (a .coded .now)
+    (bytes-of (a .message .now) (λ j h. omega (arith, k .before .before .before .before .before .before .before .before .before .shared-slice-known3 .given j))) w
+    ∙ sym (way-done _ _ _ _ _ e _ d _ _)
 
 pub tag-way-spec : {M : Type 1} → statement M
-tag-way-spec = tie.close (tie.spec (λ c κs. search needs) (λ c. search needs) (λ c. search needs) returns (λ c. search needs) (λ c κs. search needs) (λ c. search needs) (λ c. search needs) (λ c. search needs) returns-2 (λ c. search needs) (λ c. search needs) part-u-end (λ c κs. search needs) add-last mul-last add-set (λ c. search needs) (λ c. search needs) part-set-end (λ c κs. search needs) (λ c. search needs) (λ c. search needs) part-code-check-end (λ c κs. search needs) (λ c. search needs) (λ c. search needs) returns-3)
+tag-way-spec = tie.close (tie.spec (λ c κs. search needs) (λ c. search needs) (λ c. search needs) (λ c. search needs) (λ c. search needs) part-u-end (λ c κs. search needs) add-last mul-last add-set (λ c. search needs) (λ c. search needs) part-set-end (λ c κs. search needs) (λ c. search needs) (λ c. search needs) part-code-check-end (λ c κs. search needs) (λ c. search needs) returns (λ c. search needs) (λ c. search needs) returns-2)
