@@ -1,4 +1,5 @@
 pub mod WayLaws
+pub mod StartLaws
 pub mod SealWay
 pub mod TagWay
 pub mod Unrefused

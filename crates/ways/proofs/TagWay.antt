@@ -21,7 +21,7 @@ use Rattle.cipher.specs.Answers.{keySize, roomTests}
 use Rattle.cipher.specs.Refusal.{numberOf}
 use Rattle.cipher.specs.declared.refusal.Refusal.{Refusal}
 use Rattle.cipher.proofs.AnswerLaws.{room-refused, room-taken}
-use Rattle.pad.specs.Padding.{paddedForTag, kindOf, codedText}
+use Rattle.pad.specs.Padding.{paddedForTag, kindOf}
 use Rattle.pad.specs.Answers.{tagTold, tagAnswer}
 use Rattle.pad.specs.declared.code.TagCode.{TagCode}
 use Rattle.pad.specs.declared.code.TagCode.the-variants as T

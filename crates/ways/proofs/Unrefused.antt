@@ -14,7 +14,7 @@ use Rattle.claims.specs.Built.{padSet}
 use Rattle.claims.specs.Sealing.{codeOf, fileOf}
 use Rattle.claims.proofs.BuiltLaws.{not-refused}
 use Rattle.ways.specs.Ways.{keyBook, tagCodeOf, over, buildTests, codeTests, sealTests, tagWay, sealWay}
-use Rattle.ways.proofs.WayLaws.{build-numbered}
+use Rattle.ways.proofs.StartLaws.{build-numbered}
 
 -- one call: what is behind it was answered, and its number is 0 too
 passed : {B : Type 0} (ts : List (Bool × ℕ)) (left : B) (go : (ℕ × ℕ) × B) → Numbered ts → (first ts (λ q. ((q, 0), left)) go) .0 .0 ≡ 0

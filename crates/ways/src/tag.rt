@@ -35,7 +35,9 @@ fn call_blocks(s: Session, book: &[u8], coded: &[u8], n: usize) -> Session
     t
 }
 
-// The tag of a text: a block call for every block but the last, and the last call with the kind.
+// The tag of a text: a block call for every block but the last, and the last call with the kind. No
+// call's refusal is looked for: with a book that was built and a message's code there is none, by
+// claims' `calls-accepted`.
 fn tag_of(book: &[u8], coded: &[u8], kind: u8) -> [u8; 16]
     requires { ⌜ 16 ≤ length (now coded) ⌝ }
     ensures { λ r. ⌜ r ≡ tagBy (now (book .entry)) (now (coded .entry)) kind ⌝ }

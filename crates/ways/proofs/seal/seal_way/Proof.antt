@@ -9,7 +9,7 @@ use Rattle.lists.proofs.BlockLaws.{bytes-of}
 use Rattle.cipher.proofs.KeySizeLaws.{rounds-le}
 use Rattle.ways.specs.Ways.{keyBook, over, sealWay}
 use Rattle.ways.specs.Steps.{codedOpened}
-use Rattle.ways.proofs.WayLaws.{way-refused, way-done, held-is, way-built, sets-fit, cut-set, book-fits, cut-book}
+use Rattle.ways.proofs.StartLaws.{way-refused, way-done, held-is, way-built, sets-fit, cut-set, book-fits, cut-book}
 use Rattle.ways.proofs.SealWay.{coded-opened}
 use Rattle.ways.proofs.seal.seal_way.Statement.{statement}
 use Rattle.ways.proofs.seal.seal_way.Tie as tie

@@ -1,7 +1,7 @@
 -- `start::start` meets its contract. Assumes nothing.
 use mathlib.Core.Path.{sym, _∙_}
 use borrow.Author.Needs.{needs}
-use Rattle.ways.proofs.WayLaws.{start-refused, size-known, start-done}
+use Rattle.ways.proofs.StartLaws.{start-refused, size-known, start-done}
 use Rattle.ways.proofs.start.start.Statement.{statement}
 use Rattle.ways.proofs.start.start.Tie as tie
 

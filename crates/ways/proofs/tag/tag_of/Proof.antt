@@ -1,5 +1,4 @@
 -- `tag::tag_of` meets its contract. Assumes nothing.
-use native.Mathlib.Omega.{arith}
 use borrow.Author.Needs.{needs}
 use Rattle.ways.proofs.TagWay.{tag-made}
 use Rattle.ways.proofs.tag.tag_of.Statement.{statement}

@@ -9,7 +9,7 @@ use Rattle.lists.proofs.BlockLaws.{bytes-of}
 use Rattle.cipher.proofs.KeySizeLaws.{rounds-le}
 use Rattle.ways.specs.Ways.{keyBook, over, tagWay}
 use Rattle.ways.specs.Steps.{codedChecked}
-use Rattle.ways.proofs.WayLaws.{way-refused, way-done, held-is, way-built, sets-fit, cut-set, book-fits, cut-book}
+use Rattle.ways.proofs.StartLaws.{way-refused, way-done, held-is, way-built, sets-fit, cut-set, book-fits, cut-book}
 use Rattle.ways.proofs.TagWay.{coded-checked}
 use Rattle.ways.proofs.tag.tag_way.Statement.{statement}
 use Rattle.ways.proofs.tag.tag_way.Tie as tie
