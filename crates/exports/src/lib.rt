@@ -1,6 +1,7 @@
 // The C interface, for C, Rust and the benchmarks; include/bowlinette.h declares the same. Every
 // function answers 0, or the number of a refusal, in which case nothing behind a pointer has changed.
-// The last three are not in the header: one is for the benchmark, two are for the tests.
+// The last three are not in the header: one is for the benchmark; two are for the tests, and have
+// scratch buffers, in which a refusal leaves what was written before it.
 ghost use mathlib.Core.Path.{_≡_};
 ghost use Rattle.exports.specs.Chain.{chainAnswer};
 ghost use Rattle.cipher.specs.Answers.{blockTold, encipherAnswer, decipherAnswer, roundsAnswer, rowAnswer, setChecked, chainChecked};
