@@ -7,7 +7,7 @@ use native.Mathlib.Omega.{arith}
 use Rattle.cipher.specs.Refusal.{numberOf}
 use Rattle.cipher.proofs.AnswerLaws.{number-more}
 use Rattle.cipher.specs.declared.refusal.Refusal.{Refusal}
-use Rattle.exports.specs.Into.{into, told, kept}
+use Rattle.exports.specs.Into.{into, kept}
 
 -- number n of an answer whose outcome is o
 module _ {A : Type 0} (answer : ℕ × A) (o n : ℕ) (v old : A) (told : (o, v) ≡ answer) (e : n ≡ o) where
@@ -57,17 +57,17 @@ module _ (a : ℕ × List ℕ) (n : ℕ) (t old : List ℕ) (s held : List ℕ) 
       go (suc q, v) e = ap (λ (p : ℕ × List ℕ). (p .0, (p .1, held))) e
 
 -- the number r and the number l that were delivered of what is told in t, beside what x is in the buffers
-pub kept-told : {B : Type 0} (answer : (ℕ × ℕ) × B) (t : ℕ × ℕ) (x : B) (r l old : ℕ) → (r, l) ≡ told t old → (t, x) ≡ answer → ((r, l), x) ≡ kept answer old
+pub kept-told : {B : Type 0} (answer : (ℕ × ℕ) × B) (t : ℕ × ℕ) (x : B) (r l old : ℕ) → (r, l) ≡ into t old → (t, x) ≡ answer → ((r, l), x) ≡ kept answer old
 kept-told {B} answer t x r l old e h = ap (λ (y : ℕ × ℕ). (y, x)) e ∙ go t ∙ ap (λ (a : (ℕ × ℕ) × B). kept a old) h
   where
-    go : (t : ℕ × ℕ) → (told t old, x) ≡ kept (t, x) old
+    go : (t : ℕ × ℕ) → (into t old, x) ≡ kept (t, x) old
     go (zero, v) = refl
     go (suc n, v) = refl
 
 -- number n of an answer a that is refused with q and tells nothing
-pub told-refused : (a : ℕ × ℕ) (q : Refusal) (n old : ℕ) → (numberOf q, 0) ≡ a → n ≡ numberOf q → (n, old) ≡ told a old
-told-refused a q n old e h = ap (λ (k : ℕ). (k, old)) h ∙ go (numberOf q) (number-more q) ∙ ap (λ (b : ℕ × ℕ). told b old) e
+pub told-refused : (a : ℕ × ℕ) (q : Refusal) (n old : ℕ) → (numberOf q, 0) ≡ a → n ≡ numberOf q → (n, old) ≡ into a old
+told-refused a q n old e h = ap (λ (k : ℕ). (k, old)) h ∙ go (numberOf q) (number-more q) ∙ ap (λ (b : ℕ × ℕ). into b old) e
   where
-    go : (k : ℕ) → 0 < k → (k, old) ≡ told (k, 0) old
+    go : (k : ℕ) → 0 < k → (k, old) ≡ into (k, 0) old
     go zero l = absurd (omega arith)
     go (suc k) l = refl

@@ -12,8 +12,3 @@ into (suc n, value) old = (suc n, old)
 abbrev pub kept : {A B : Type 0} → (ℕ × A) × B → A → (ℕ × A) × B
 kept ((zero, told), out) old = ((zero, told), out)
 kept ((suc n, told), out) old = ((suc n, old), out)
-
--- and of an answer that tells a number only
-abbrev pub told : ℕ × ℕ → ℕ → ℕ × ℕ
-told (zero, value) old = (zero, value)
-told (suc n, value) old = (suc n, old)

@@ -6,7 +6,7 @@ ghost use mathlib.Core.Path.{_≡_};
 ghost use Rattle.exports.specs.Chain.{chainAnswer};
 ghost use Rattle.cipher.specs.Answers.{blockTold, encipherAnswer, decipherAnswer, roundsAnswer, rowAnswer, setChecked, chainChecked};
 ghost use Rattle.cipher.specs.Refusal.{writtenOf};
-ghost use Rattle.exports.specs.Into.{into, told, kept};
+ghost use Rattle.exports.specs.Into.{into, kept};
 ghost use Rattle.book.specs.Answers.{buildAnswer, roundAnswer};
 ghost use Rattle.pad.specs.Answers.{sealingAnswer, tagAnswer};
 ghost use Rattle.driver.specs.Driver as D;
@@ -37,7 +37,7 @@ pub fn deliver(a: BlockAnswer, out: &mut [u8; 16]) -> u32
 
 // How many bytes were written into length, and the number.
 fn deliver_length(w: Written, length: &mut u64) -> u32
-    ensures { λ r. ⌜ (r, now (length .exit)) ≡ told (writtenOf w) (now (length .entry)) ⌝ }
+    ensures { λ r. ⌜ (r, now (length .exit)) ≡ into (writtenOf w) (now (length .entry)) ⌝ }
 {
     match w {
         Written::Bytes(n) => {
@@ -50,7 +50,7 @@ fn deliver_length(w: Written, length: &mut u64) -> u32
 
 // A verdict into valid, 1 for Valid, 0 for Invalid, and the number.
 fn deliver_verdict(c: Checked, valid: &mut u8) -> u32
-    ensures { λ r. ⌜ (r, now (valid .exit)) ≡ told (R.checkedTold c) (now (valid .entry)) ⌝ }
+    ensures { λ r. ⌜ (r, now (valid .exit)) ≡ into (R.checkedTold c) (now (valid .entry)) ⌝ }
 {
     match c {
         Checked::Valid => {
@@ -247,7 +247,7 @@ pub extern "C" fn bowlinette_check(
     tag: &[u8],
     valid: &mut u8,
 ) -> u32
-    ensures { λ r. ⌜ (r, now (valid .exit)) ≡ told (R.checkAnswer (now (key .entry)) (now (set .entry)) (now (message .entry)) (now (tag .entry))) (now (valid .entry)) ⌝ }
+    ensures { λ r. ⌜ (r, now (valid .exit)) ≡ into (R.checkAnswer (now (key .entry)) (now (set .entry)) (now (message .entry)) (now (tag .entry))) (now (valid .entry)) ⌝ }
 {
     deliver_verdict(archive::check::check(key, set, message, tag), valid)
 }

@@ -106,7 +106,7 @@ module _ (bk c : List ℕ) (n : ℕ) where
       ∙ ap (λ (j : ℕ). behindBlocks bk c j s) (sym (add-one n))
 
   last-made : (s : Session) (k : ℕ) (a : TagAnswer) → D.tagTold a ≡ D.lastAnswer bk (take (16 * n + 16 - 16 * n) (drop (16 * n) c)) k s
-      → a .tag ≡ (D.lastAnswer bk (blockOf c n) k s) .0 .1
+      → a .answer .block ≡ (D.lastAnswer bk (blockOf c n) k s) .0 .1
   last-made s k a e =
       ap (λ (r : (ℕ × List ℕ) × Session). r .0 .1) e
       ∙ ap (λ (b : List ℕ). (D.lastAnswer bk b k s) .0 .1) part-block
@@ -114,7 +114,7 @@ module _ (bk c : List ℕ) (n : ℕ) where
 pub tag-made : (bk c : List ℕ) (k : ℕ) (b : SessionAnswer) (s : Session) (a : TagAnswer) → D.sessionTold b ≡ D.beginAnswer bk
     → s ≡ behindBlocks bk c (length c / 16 - 1) (b .session)
     → D.tagTold a ≡ D.lastAnswer bk (take (16 * (length c / 16 - 1) + 16 - 16 * (length c / 16 - 1)) (drop (16 * (length c / 16 - 1)) c)) k s
-    → a .tag ≡ tagBy bk c k
+    → a .answer .block ≡ tagBy bk c k
 unfolding tagBy
 tag-made bk c k b s a eb es ea =
     let n = length c / 16 - 1 in

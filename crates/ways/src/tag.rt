@@ -48,7 +48,8 @@ fn tag_of(book: &[u8], coded: &[u8], kind: u8) -> [u8; 16]
     let s = call_blocks(fresh, book, coded, n);
     let at = BLOCK * n;
     let a = last_call(s, book, &coded[at..at + BLOCK], kind);
-    a.tag
+    let answer = a.answer;
+    answer.block
 }
 
 // A message coded by the set u, tagged and checked.

@@ -1,12 +1,12 @@
 use mathlib.Core.Path.{ap, _∙_}
 use Prim.Native.Nat.{ℕ}
 use borrow.Author.Needs.{needs}
-use Rattle.exports.specs.Into.{told}
+use Rattle.exports.specs.Into.{into}
 use Rattle.exports.proofs.bowlinette_check.Statement.{statement}
 use Rattle.exports.proofs.bowlinette_check.Tie as tie
 
 returns : tie.Need-returns
-returns c = c .deliver-verdict .ensures ∙ ap (λ (t : ℕ × ℕ). told t (c .before .before .before .before .before .before .before .args .valid .now)) (c .before .before .check .ensures)
+returns c = c .deliver-verdict .ensures ∙ ap (λ (t : ℕ × ℕ). into t (c .before .before .before .before .before .before .before .args .valid .now)) (c .before .before .check .ensures)
 
 pub bowlinette-check-spec : {M : Type 1} → statement M
 bowlinette-check-spec = tie.close (tie.spec (λ c κs. search needs) (λ c κs. search needs) returns)

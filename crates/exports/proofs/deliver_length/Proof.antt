@@ -2,13 +2,13 @@ use mathlib.Core.Path.{sym, ap}
 use Prim.Native.Nat.{ℕ}
 use borrow.Author.Needs.{needs}
 use Rattle.cipher.specs.Refusal.{writtenOf}
-use Rattle.exports.specs.Into.{told}
+use Rattle.exports.specs.Into.{into}
 use Rattle.exports.proofs.IntoLaws.{told-refused}
 use Rattle.exports.proofs.deliver_length.Statement.{statement}
 use Rattle.exports.proofs.deliver_length.Tie as tie
 
 returns : tie.Need-returns
-returns c = ap (λ (t : ℕ × ℕ). told t (c .before .before .before .args .length .now)) (sym (ap writtenOf (c .before .w .given .1)))
+returns c = ap (λ (t : ℕ × ℕ). into t (c .before .before .before .args .length .now)) (sym (ap writtenOf (c .before .w .given .1)))
 
 returns-2 : tie.Need-returns-2
 returns-2 c = told-refused _ (c .before .before .w2 .given .0 .0) _ _ (sym (ap writtenOf (c .before .before .w2 .given .1))) (c .number .ensures)

@@ -2,16 +2,16 @@ use mathlib.Core.Path.{sym, ap}
 use Prim.Native.Nat.{ℕ}
 use borrow.Author.Needs.{needs}
 use Rattle.archive.specs.Archive.{checkedTold}
-use Rattle.exports.specs.Into.{told}
+use Rattle.exports.specs.Into.{into}
 use Rattle.exports.proofs.IntoLaws.{told-refused}
 use Rattle.exports.proofs.deliver_verdict.Statement.{statement}
 use Rattle.exports.proofs.deliver_verdict.Tie as tie
 
 returns : tie.Need-returns
-returns c = ap (λ (t : ℕ × ℕ). told t (c .before .before .args .valid .now)) (sym (ap checkedTold (c .enum-told .given .1)))
+returns c = ap (λ (t : ℕ × ℕ). into t (c .before .before .args .valid .now)) (sym (ap checkedTold (c .enum-told .given .1)))
 
 returns-2 : tie.Need-returns-2
-returns-2 c = ap (λ (t : ℕ × ℕ). told t (c .before .before .args .valid .now)) (sym (ap checkedTold (c .enum-told2 .given .1)))
+returns-2 c = ap (λ (t : ℕ × ℕ). into t (c .before .before .args .valid .now)) (sym (ap checkedTold (c .enum-told2 .given .1)))
 
 returns-3 : tie.Need-returns-3
 returns-3 c = told-refused _ (c .before .before .c .given .0 .0) _ _ (sym (ap checkedTold (c .before .before .c .given .1))) (c .number .ensures)
