@@ -1,8 +1,3 @@
-pub mod ReadingLaws
-pub mod SumLaws
-pub mod TurnLaws
-pub mod FoldLaws
-pub mod Typed
 pub mod PassLaws
 pub mod AnswerLaws
 pub mod SealLaws

@@ -1,33 +1,22 @@
--- A block taken through rounds of a book, round by round, and a fold and all rounds together.
+-- A fold and all rounds of a book together.
 -- Assumes nothing.
 use mathlib.Core.Path.{_≡_, sym, ap, ap₂, _∙_}
 use mathlib.Core.List.{List}
-use Prim.Native.Nat.{ℕ, zero, suc, _+_, _-_, _*_, _/_}
-use native.Mathlib.Numerals.{add-one}
+use Prim.Native.Nat.{ℕ, _+_, _-_, _*_, _/_}
 use native.Mathlib.Omega.{arith}
 use lib.ListN.{length, take, drop}
 use Rattle.lists.specs.Blocks.{Block}
 use Rattle.lists.proofs.PartLaws.{part-end}
 use Rattle.cipher.specs.KeySize.{rounds, bookLength, sizeOfBook}
-use Rattle.cipher.specs.Tables.{tableRound, tableRounds, tableFold}
+use Rattle.cipher.specs.Tables.{tableRounds, tableFold}
 use Rattle.cipher.specs.Book.{groupAt, roundAt}
 use Rattle.cipher.specs.declared.size.KeySize.{KeySize}
 use Rattle.cipher.specs.declared.size.SizeFound.the-variants.{Found}
 use Rattle.cipher.proofs.CodingLaws.{block-halves}
-use Rattle.cipher.proofs.RoundLaw.{after-lt}
 use Rattle.cipher.proofs.FoldLaw.{fold-lt}
 use Rattle.cipher.proofs.KeySizeLaws.{found-length}
+use Rattle.lookup.proofs.RoundLaws.{block-rounds}
 use Rattle.driver.specs.Driver.{roundsOf, pass}
-
--- one round more
-pub rounds-turn : (bk x y z : List ℕ) (l : ℕ) → y ≡ tableRounds (roundAt bk) l x
-    → z ≡ tableRound (take (length bk - (24592 + 18432 * l)) (drop (24592 + 18432 * l) bk)) y
-    → z ≡ tableRounds (roundAt bk) (l + 1) x
-unfolding tableRounds
-rounds-turn bk x y z l ey ez =
-    ez
-    ∙ ap₂ tableRound (part-end bk (24592 + 18432 * l)) ey
-    ∙ ap (λ (k : ℕ). tableRounds (roundAt bk) k x) (sym (add-one l))
 
 -- the rounds of a book of a known length
 pub rounds-known : (z : KeySize) (bk : List ℕ) → length bk ≡ bookLength z → roundsOf bk ≡ rounds z
@@ -46,15 +35,7 @@ pass-is z bk x m f y g r e er ef ey =
     ey
     ∙ ap₂ (tableRounds (roundAt bk)) (er ∙ sym (rounds-known z bk e)) (ef ∙ ap (λ (t : List ℕ). tableFold t x m) (part-end bk (16 + 8192 * g)))
 
--- what rounds and folds give are blocks
-pub block-rounds : (t : ℕ → List ℕ) (n : ℕ) (b : List ℕ) → Block b → Block (tableRounds t n b)
-unfolding tableRounds tableRound
-block-rounds t zero b h = h
-block-rounds t (suc n) b h = block-halves _ (after-lt (t n) (tableRounds t n b))
-
-pub rounds-block : (bk x y : List ℕ) (l : ℕ) → Block x → y ≡ tableRounds (roundAt bk) l x → Block y
-rounds-block bk x y l h e = rw e (block-rounds (roundAt bk) l x h)
-
+-- what folds and passes give are blocks
 pub block-fold : (t x m : List ℕ) → Block (tableFold t x m)
 unfolding tableFold
 block-fold t x m = block-halves _ (fold-lt t x m)

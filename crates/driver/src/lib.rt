@@ -1,11 +1,7 @@
 // The driver (document 01, "Pad, driver, archive"): rounds from the tables of a book, sealing, and
 // the tag session. It has no key, no coding and no builder.
-mod entry;
-mod fold;
 pub mod lent;
-mod round;
+mod pass;
 pub mod run;
 pub mod seal;
 pub mod session;
-mod sums;
-mod turns;

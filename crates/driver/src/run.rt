@@ -3,8 +3,6 @@
 ghost use mathlib.Core.Path.{_≡_};
 ghost use Rattle.cipher.specs.Answers.{blockTold};
 ghost use Rattle.driver.specs.Driver.{roundAnswer, roundsAnswer};
-use crate::round::rounds;
-use crate::round::step;
 use cipher::block::block_at;
 use cipher::lea::BlockAnswer;
 use cipher::lea::refused;
@@ -12,6 +10,8 @@ use cipher::refusal::Outcome;
 use cipher::refusal::Refusal;
 use cipher::size::KeySize;
 use cipher::size::SizeFound;
+use lookup::round::rounds;
+use lookup::round::step;
 
 fn done(block: [u8; 16]) -> BlockAnswer
     ensures { λ r. ⌜ blockTold r ≡ (0, block) ⌝ }

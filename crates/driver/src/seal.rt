@@ -7,7 +7,7 @@ ghost use Rattle.lists.specs.Blocks.{cut};
 ghost use Rattle.cipher.specs.KeySize as S;
 ghost use Rattle.cipher.specs.Refusal.{writtenOf};
 ghost use Rattle.driver.specs.Driver as D;
-use crate::fold::pass;
+use crate::pass::pass;
 use cipher::block::bad_text;
 use cipher::block::block_at;
 use cipher::block::put_block;

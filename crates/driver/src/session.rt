@@ -5,7 +5,7 @@ ghost use Prim.Native.Nat.{_<_};
 ghost use Rattle.cipher.specs.Refusal.{numberOf};
 ghost use Rattle.lists.specs.Blocks.{zeros};
 ghost use Rattle.driver.specs.Driver as D;
-use crate::fold::pass;
+use crate::pass::pass;
 use cipher::block::block_at;
 use cipher::lea::BlockAnswer;
 use cipher::lea::refused;

@@ -5,7 +5,7 @@ use Prim.Native.Nat.{ℕ}
 use native.Mathlib.Omega.{arith}
 use borrow.Author.Needs.{needs}
 use Rattle.cipher.specs.Tables.{tableRound}
-use Rattle.driver.proofs.Typed.{array-block}
+use Rattle.lookup.proofs.Typed.{array-block}
 use Rattle.driver.proofs.AnswerLaws.{whole, round-6, round-7, round-done}
 use Rattle.driver.proofs.run.run_round.Statement.{statement}
 use Rattle.driver.proofs.run.run_round.Tie as tie

@@ -1,0 +1,6 @@
+pub mod ReadingLaws
+pub mod SumLaws
+pub mod TurnLaws
+pub mod FoldLaws
+pub mod Typed
+pub mod RoundLaws
