@@ -9,6 +9,7 @@ pub mod ChainingLaws
 pub mod Permutation
 pub mod CodingLaws
 pub mod InverseLaws
+pub mod ImageLaws
 pub mod RippleAdd
 pub mod TurnDigits
 pub mod TableLaws

@@ -6,6 +6,7 @@ pub mod Lea
 pub mod Cmac
 pub mod Cbc
 pub mod Coding
+pub mod Images
 pub mod Tables
 pub mod Chain
 pub mod Book

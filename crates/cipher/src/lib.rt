@@ -12,3 +12,4 @@ pub mod cmac; // cmac.rt: doubling, the subkeys of CMAC and its chaining
 pub mod chain; // chain.rt: the checks of sets and chains
 pub mod block; // block.rt: blocks coded by a set
 pub mod invert; // invert.rt: codings inverted once
+pub mod image; // image.rt: bytes coded by one look-up

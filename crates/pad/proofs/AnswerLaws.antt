@@ -21,10 +21,10 @@ use Rattle.cipher.specs.declared.refusal.Outcome.{Outcome}
 use Rattle.cipher.specs.declared.refusal.Outcome.the-variants.{Done, Refused}
 use Rattle.cipher.specs.declared.refusal.Refusal.{Refusal}
 use Rattle.cipher.proofs.AnswerLaws.{number-more}
-use Rattle.pad.specs.Images.{codedPart}
+use Rattle.pad.specs.CodedParts.{codedPart}
 use Rattle.pad.specs.Padding.{codedText, paddedForSealing, paddedForTag, kindOf}
 use Rattle.pad.specs.Answers.{longest, codingTests, codedInto, sealingAnswer, tagAnswer}
-use Rattle.pad.proofs.ImageLaws.{part-blocks}
+use Rattle.pad.proofs.CodedPartLaws.{part-blocks}
 
 -- ---- the tests: for a set u, a message of n bytes, and total bytes to be written where there is room for some
 

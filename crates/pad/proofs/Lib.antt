@@ -1,5 +1,5 @@
 pub mod PadLaws
-pub mod ImageLaws
+pub mod CodedPartLaws
 pub mod TextLaws
 pub mod AnswerLaws
 pub mod CodeLaws

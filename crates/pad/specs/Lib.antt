@@ -1,3 +1,3 @@
 pub mod Padding
-pub mod Images
+pub mod CodedParts
 pub mod Answers

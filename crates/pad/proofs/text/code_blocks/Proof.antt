@@ -9,8 +9,8 @@ use lib.ListN.{length, getD, drop}
 use Rattle.lists.specs.Tabulation.{chunks}
 use Rattle.lists.proofs.TabulationLaws.{length-tab}
 use Rattle.lists.proofs.PartLaws.{chunks-turn, length-part}
-use Rattle.pad.specs.Images.{imageAt}
-use Rattle.pad.proofs.ImageLaws.{blockImages, lent-block, blocks-full}
+use Rattle.cipher.specs.Images.{imageAt}
+use Rattle.pad.proofs.CodedPartLaws.{blockImages, lent-block, blocks-full}
 use Rattle.pad.proofs.text.code_blocks.Statement.{statement}
 use Rattle.pad.proofs.text.code_blocks.Tie as tie
 
@@ -24,8 +24,8 @@ loop-holds : tie.Need-loop-holds Inv-loop μ-loop
 unfolding chunks
 loop-holds c = (search needs, refl, refl, refl)
 
-code-block-requires : tie.Need-code-block-requires Inv-loop μ-loop
-code-block-requires c κs =
+look-up-requires : tie.Need-look-up-requires Inv-loop μ-loop
+look-up-requires c κs =
     let s = c .before .before .before in
     let e = s .before .before .before .before in
     (e .pre .0, length-part (e .args .text .now) (s .loop .a) 16 (omega arith), length-part (s .loop .out) (s .loop .a) 16 (omega arith))
@@ -39,9 +39,9 @@ loop-again c =
     let text = u .text .now in (
       omega arith,
       omega arith,
-      same-len-mid (s .loop .a) (s .loop .a + 16 - s .loop .a) (s .loop .out) (call .code-block .last .1 .1 .0) (call .code-block .kept .1 .1 .0) ∙ s .loop .inv .2,
+      same-len-mid (s .loop .a) (s .loop .a + 16 - s .loop .a) (s .loop .out) (call .look-up .last .1 .1 .0) (call .look-up .kept .1 .1 .0) ∙ s .loop .inv .2,
       chunks-turn (blockImages t text) 16 (λ i. length-tab 16 (λ j. imageAt t j (getD text (i * 16 + j) 0)))
-          _ _ _ _ _ (s .loop .inv .3) (s .loop .inv .1) (lent-block t text _ (s .loop .k) (s .loop .a) (s .loop .inv .1) (call .code-block .ensures)),
+          _ _ _ _ _ (s .loop .inv .3) (s .loop .inv .1) (lent-block t text _ (s .loop .k) (s .loop .a) (s .loop .inv .1) (call .look-up .ensures)),
     )
 
 same-length : tie.Need-same-length Inv-loop μ-loop
@@ -54,4 +54,4 @@ returns c =
     blocks-full (e .args .images .now) (e .args .text .now) _ _ (e .args .n) (l .loop .k) (l .loop .a) (e .pre .1) (l .loop .inv .3) (l .loop .inv .1) (omega arith)
 
 pub code-blocks-spec : {M : Type 1} → statement M
-code-blocks-spec = tie.close (tie.spec Inv-loop μ-loop loop-holds (λ c. search needs) (λ c. search needs) (λ c. search needs) (λ c. search needs) (λ c. search needs) (λ c. search needs) (λ c. search needs) code-block-requires (λ c. search needs) (λ c. search needs) loop-again same-length returns)
+code-blocks-spec = tie.close (tie.spec Inv-loop μ-loop loop-holds (λ c. search needs) (λ c. search needs) (λ c. search needs) (λ c. search needs) (λ c. search needs) (λ c. search needs) (λ c. search needs) look-up-requires (λ c. search needs) (λ c. search needs) loop-again same-length returns)

@@ -7,8 +7,9 @@ use native.Mathlib.Omega.{arith}
 use borrow.Author.Needs.{needs}
 use lib.ListN.{length, getD, take, drop, length-set}
 use Rattle.lists.specs.Tabulation.{tab}
-use Rattle.pad.specs.Images.{imageAt, codedPart}
-use Rattle.pad.proofs.ImageLaws.{part-turn, part-full, part-none}
+use Rattle.cipher.specs.Images.{imageAt}
+use Rattle.pad.specs.CodedParts.{codedPart}
+use Rattle.pad.proofs.CodedPartLaws.{part-turn, part-full, part-none}
 use Rattle.pad.proofs.text.code_part.Statement.{statement}
 use Rattle.pad.proofs.text.code_part.Tie as tie
 

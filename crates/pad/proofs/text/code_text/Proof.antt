@@ -5,7 +5,7 @@ use borrow.Author.Needs.{needs}
 use lib.ListN.{length}
 use Rattle.lists.specs.Blocks.{Bytes}
 use Rattle.lists.proofs.BlockLaws.{bytes-of}
-use Rattle.pad.proofs.ImageLaws.{all-written}
+use Rattle.pad.proofs.CodedPartLaws.{all-written}
 use Rattle.pad.proofs.text.code_text.Statement.{statement}
 use Rattle.pad.proofs.text.code_text.Tie as tie
 

@@ -1,4 +1,4 @@
--- `text::image_row` meets its contract. The invariant: l bytes are written, and the rest is as it was. Assumes nothing.
+-- `image::image_row` meets its contract. The invariant: l bytes are written, and the rest is as it was. Assumes nothing.
 use mathlib.Core.Path.{_≡_, refl}
 use mathlib.Core.List.{_++_}
 use Prim.Native.Nat.{_+_, _-_, _*_, _≤_}
@@ -7,10 +7,10 @@ use borrow.Author.Needs.{needs}
 use lib.ListN.{length, drop, length-set}
 use Rattle.lists.specs.Tabulation.{tab}
 use Rattle.lists.proofs.PartLaws.{tab-turn, tab-full}
 use Rattle.cipher.specs.Coding.{byteCoded}
-use Rattle.pad.proofs.ImageLaws.{image-is}
-use Rattle.pad.proofs.text.image_row.Statement.{statement}
-use Rattle.pad.proofs.text.image_row.Tie as tie
+use Rattle.cipher.proofs.ImageLaws.{image-is}
+use Rattle.cipher.proofs.image.image_row.Statement.{statement}
+use Rattle.cipher.proofs.image.image_row.Tie as tie
 
 abbrev Inv-loop : tie.InvT-loop
 Inv-loop set k h out₀ at high l₀ out l = (l ≤ 16) × (length out ≡ length out₀) × (out ≡ tab l (λ i. byteCoded set k (16 * h + i)) ++ drop l out₀)

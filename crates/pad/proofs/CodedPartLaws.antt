@@ -1,5 +1,5 @@
--- Why the code codes a text as it does: the table of images, the loops that look bytes up in it, and that parts of a text coded
--- byte by byte make the text coded block by block.
+-- Why the code codes a text as it does: the loops that look bytes up in a table of images, and that parts of a text coded byte by
+-- byte make the text coded block by block.
 -- Assumes nothing.
 use mathlib.Core.Path.{_≡_, refl, sym, ap, ap₂, _∙_}
 use mathlib.Core.List.{List, [], _∷_, _++_, map, flatten, append-assoc, append-nil}
@@ -9,43 +9,16 @@ use lib.ListN.{length, getD, set, take, drop, length-append, length-drop, take-a
 use lib.Seq.{length-take-le, getD-append-add, getD-take, getD-drop, take-at, drop-at, drop-drop}
 use Rattle.lists.specs.Tabulation.{tab, chunks}
 use Rattle.lists.specs.Blocks.{Bytes, cut, blocks}
-use Rattle.lists.proofs.TabulationLaws.{length-tab, getD-tab, tab-ext, tab-more}
+use Rattle.lists.proofs.TabulationLaws.{length-tab, tab-ext, tab-more}
 use Rattle.lists.proofs.ChunkLaws.{tab-append, tab-rows}
 use Rattle.lists.proofs.PartLaws.{grown, part-end}
 use Rattle.lists.proofs.BlockLaws.{bytes-append}
 use Rattle.cipher.specs.Coding.{setOf, coded, byteCoded}
+use Rattle.cipher.specs.Images.{imagesOf, imageAt, imaged}
 use Rattle.cipher.proofs.InverseLaws.{coded-each}
+use Rattle.cipher.proofs.ImageLaws.{image-at}
 use Rattle.pad.specs.Padding.{codedText}
-use Rattle.pad.specs.Images.{imagesOf, imageAt, codedPart}
-
--- ---- the table of images
-
-module _ (s : List ℕ) where
-  -- the entries of a row
-  pub image-is : (k h l : ℕ) → h < 16 → l < 16 → getD s (32 * k + l) 0 + 16 * getD s (32 * k + 16 + h) 0 ≡ byteCoded s k (16 * h + l)
-  image-is k h l hh hl =
-      let d : l ≡ (16 * h + l) % 16 = omega arith in
-      let r : (16 * h + l) / 16 ≡ h = omega arith in
-      let w : h % 16 ≡ h = omega arith in
-      let q : h ≡ (16 * h + l) / 16 % 16 = sym (ap (λ (x : ℕ). x % 16) r ∙ w) in
-      ap₂ (λ (a b : ℕ). getD s (32 * k + a) 0 + 16 * getD s (32 * k + 16 + b) 0) d q
-
-  -- the rows make the table
-  pub images-rows : chunks 256 (λ r. tab 16 (λ l. byteCoded s (r / 16) (16 * (r % 16) + l))) ≡ imagesOf s
-  unfolding imagesOf
-  images-rows =
-      sym (tab-rows 256 16 (λ i. byteCoded s (i / 256) (i % 256)) (λ r l. byteCoded s (r / 16) (16 * (r % 16) + l)) (λ r l hr hl.
-      let d : (r * 16 + l) / 256 ≡ r / 16 = omega arith in
-      let m : (r * 16 + l) % 256 ≡ 16 * (r % 16) + l = omega arith in
-      ap₂ (byteCoded s) d m))
-
-  -- what is looked up in it
-  pub image-at : (k v : ℕ) → k < 16 → v < 256 → imageAt (imagesOf s) k v ≡ byteCoded s k v
-  unfolding imagesOf
-  image-at k v hk hv =
-      let d : (256 * k + v) / 256 ≡ k = omega arith in
-      let m : (256 * k + v) % 256 ≡ v = omega arith in
-      getD-tab 4096 (λ i. byteCoded s (i / 256) (i % 256)) (256 * k + v) (omega arith) ∙ ap₂ (byteCoded s) d m
+use Rattle.pad.specs.CodedParts.{codedPart}
 
 -- ---- byte by byte
 
@@ -144,7 +117,8 @@ module _ (t text : List ℕ) where
   blockImages k = tab 16 (λ i. imageAt t i (getD text (k * 16 + i) 0))
 
   -- from the block as the code lends it
-  pub lent-block : (q : List ℕ) (k a : ℕ) → a ≡ k * 16 → q ≡ tab 16 (λ i. imageAt t i (getD (take (a + 16 - a) (drop a text)) i 0)) → q ≡ blockImages k
+  pub lent-block : (q : List ℕ) (k a : ℕ) → a ≡ k * 16 → q ≡ imaged t (take (a + 16 - a) (drop a text)) → q ≡ blockImages k
+  unfolding imaged
   lent-block q k a e d =
       d
       ∙ tab-ext 16 (λ i. imageAt t i (getD (take (a + 16 - a) (drop a text)) i 0)) (λ i. imageAt t i (getD text (k * 16 + i) 0)) (λ i h.

@@ -1,4 +1,4 @@
--- `text::code_block` meets its contract. The invariant: k bytes are written, and the rest is as it was. Assumes nothing.
+-- `image::look_up` meets its contract. The invariant: k bytes are written, and the rest is as it was. Assumes nothing.
 use mathlib.Core.Path.{_≡_, refl, ap}
 use mathlib.Core.List.{_++_}
 use Prim.Native.Nat.{_-_, _≤_}
@@ -7,9 +7,9 @@ use borrow.Author.Needs.{needs}
 use lib.ListN.{length, getD, drop, length-set}
 use Rattle.lists.specs.Tabulation.{tab}
 use Rattle.lists.proofs.PartLaws.{tab-turn, tab-full}
-use Rattle.pad.specs.Images.{imageAt}
-use Rattle.pad.proofs.text.code_block.Statement.{statement}
-use Rattle.pad.proofs.text.code_block.Tie as tie
+use Rattle.cipher.specs.Images.{imageAt, imaged}
+use Rattle.cipher.proofs.image.look_up.Statement.{statement}
+use Rattle.cipher.proofs.image.look_up.Tie as tie
 
 abbrev Inv-loop : tie.InvT-loop
 Inv-loop images block out₀ k₀ out k = (k ≤ 16) × (length out ≡ length out₀) × (out ≡ tab k (λ i. imageAt images i (getD block i 0)) ++ drop k out₀)
@@ -37,7 +37,8 @@ same-length : tie.Need-same-length Inv-loop μ-loop
 same-length c = c .before .loop .inv .1
 
 returns : tie.Need-returns Inv-loop μ-loop
+unfolding imaged
 returns c = tab-full _ _ _ 16 (c .before .loop .k) (c .before .loop .inv .2) (omega arith) (omega arith)
 
-pub code-block-spec : {M : Type 1} → statement M
-code-block-spec = tie.close (tie.spec Inv-loop μ-loop loop-holds (λ c. search needs) (λ c. search needs) (λ c κs. search needs) (λ c. search needs) shared-slice-read-out (λ c. search needs) (λ c. search needs) (λ c. search needs) loop-again same-length returns)
+pub look-up-spec : {M : Type 1} → statement M
+look-up-spec = tie.close (tie.spec Inv-loop μ-loop loop-holds (λ c. search needs) (λ c. search needs) (λ c κs. search needs) (λ c. search needs) shared-slice-read-out (λ c. search needs) (λ c. search needs) (λ c. search needs) loop-again same-length returns)

@@ -1,4 +1,4 @@
--- `text::images` meets its contract. The invariant: r rows are written, and the rest is as it was. Assumes nothing.
+-- `image::images` meets its contract. The invariant: r rows are written, and the rest is as it was. Assumes nothing.
 use mathlib.Core.Path.{_≡_, refl, _∙_}
 use mathlib.Core.List.{_++_}
 use Prim.Native.Nat.{_+_, _-_, _*_, _/_, _%_, _≤_}
@@ -9,10 +9,10 @@ use lib.ListN.{length, drop}
 use Rattle.lists.specs.Tabulation.{tab, chunks}
 use Rattle.lists.proofs.TabulationLaws.{length-tab}
 use Rattle.lists.proofs.PartLaws.{chunks-turn, chunks-full, length-part}
 use Rattle.cipher.specs.Coding.{byteCoded}
-use Rattle.pad.proofs.ImageLaws.{images-rows}
-use Rattle.pad.proofs.text.images.Statement.{statement}
-use Rattle.pad.proofs.text.images.Tie as tie
+use Rattle.cipher.proofs.ImageLaws.{images-rows}
+use Rattle.cipher.proofs.image.images.Statement.{statement}
+use Rattle.cipher.proofs.image.images.Tie as tie
 
 abbrev Inv-loop : tie.InvT-loop
 Inv-loop set out₀ a₀ r₀ out a r = (r ≤ 256) × (a ≡ r * 16) × (length out ≡ length out₀) × (out ≡ chunks r (λ i. tab 16 (λ l. byteCoded set (i / 16) (16 * (i % 16) + l))) ++ drop a out₀)
