@@ -2,42 +2,43 @@
 -- Assumes nothing.
 use mathlib.Core.Path.{_≡_, refl, sym, ap, ap₂, _∙_, fun-ext}
 use mathlib.Core.List.{List, [], _∷_, _++_, map, flatten}
-use Prim.Native.Nat.{ℕ, zero, suc, _+_, _-_, _*_, _/_, _%_, _^_, _<_, _≤_}
+use Prim.Native.Nat.{ℕ, zero, suc, _+_, _-_, _*_, _/_, _≤_}
 use native.Mathlib.Numerals.{add-one}
 use native.Mathlib.Omega.{arith}
-use lib.ListN.{length, getD, set, take, drop}
-use lib.Seq.{take-all, paste, paste-suc}
+use lib.ListN.{length, take, drop}
+use lib.Seq.{take-all, drop-at, drop-drop}
 use Rattle.lists.specs.Tabulation.{chunks}
 use Rattle.lists.specs.Blocks.{Bytes, Block, xorBlock, cut, blocks, blockOf}
-use Rattle.lists.proofs.BlockLaws.{block-xor, cut-more, flatten-more}
+use Rattle.lists.proofs.BlockLaws.{block-xor, bytes-take, bytes-drop, cut-more, flatten-more}
 use Rattle.lists.proofs.ChunkLaws.{chunks-more, length-chunks}
 use Rattle.lists.proofs.PartLaws.{put-more}
 use Rattle.cipher.specs.Word.{xorWords}
 use Rattle.cipher.specs.Schedule.{words4}
 use Rattle.cipher.specs.Lea.{backward, bytes, undoneRounds}
 use Rattle.cipher.specs.Cbc.{cbcDeciphered}
-use Rattle.cipher.specs.Coding.{Set, LowSet, setOf, coded, decoded, inverted}
+use Rattle.cipher.specs.Coding.{Set, setOf, decoded, inverted}
+use Rattle.cipher.specs.Images.{imagesOf, imaged}
 use Rattle.cipher.proofs.LeaLaws.{backward-words, words-bytes, bytes-words, words-xor, words-four, block-undone}
-use Rattle.cipher.proofs.InverseLaws.{decoded-inverted, low-block}
+use Rattle.cipher.proofs.InverseLaws.{decoded-inverted}
+use Rattle.cipher.proofs.ImageLaws.{imaged-coded}
 use Rattle.archive.specs.Blocks.{WordRows, blockBefore, openedBlock}
 use Rattle.archive.specs.Archive.{openedText}
 
 -- ---- one block, in words
 
-module _ (rows : List (List ℕ)) (hr : WordRows rows) (r : ℕ) (s iv text : List ℕ) (low : LowSet s) (k : ℕ) where
-  pub opened-words : (x c y z : List ℕ) → x ≡ words4 (coded (setOf s) (blockBefore iv text k)) → c ≡ words4 (coded (setOf s) (blockOf text k))
-      → y ≡ backward rows r c → z ≡ bytes (xorWords y x) → z ≡ openedBlock rows r (setOf s) iv text k
+module _ (rows : List (List ℕ)) (hr : WordRows rows) (r : ℕ) (f : List ℕ → List ℕ) (hf : (b : List ℕ) → Block (f b)) (iv text : List ℕ) (k : ℕ) where
+  pub opened-words : (x c y z : List ℕ) → x ≡ words4 (f (blockBefore iv text k)) → c ≡ words4 (f (blockOf text k))
+      → y ≡ backward rows r c → z ≡ bytes (xorWords y x) → z ≡ openedBlock rows r f iv text k
   unfolding openedBlock undoneRounds
   opened-words x c y z ex ec ey ez =
-      let C = coded (setOf s) (blockOf text k) in
-      let B = coded (setOf s) (blockBefore iv text k) in
-      let hC = low-block s (blockOf text k) low in
-      let hB = low-block s (blockBefore iv text k) low in
-      let f = backward-words rows hr r (words-four C (hC .bytes)) in
+      let C = f (blockOf text k) in
+      let B = f (blockBefore iv text k) in
+      let hB = hf (blockBefore iv text k) in
+      let w = backward-words rows hr r (words-four C (hf (blockOf text k) .bytes)) in
       let hU = block-undone rows r C in
       ez
       ∙ ap bytes
-      (ap₂ xorWords (ey ∙ ap (backward rows r) ec ∙ sym (words-bytes f)) ex
+      (ap₂ xorWords (ey ∙ ap (backward rows r) ec ∙ sym (words-bytes w)) ex
       ∙ sym (words-xor (undoneRounds rows r C) B (hU .bytes) (hB .bytes)))
       ∙ bytes-words (block-xor (undoneRounds rows r C) B (hU .bytes) (hB .bytes))
 
@@ -64,43 +65,58 @@ unfolding map
 map-more f [] c = refl
 map-more f (b ∷ cs) c = ap (λ (l : List (List ℕ)). f b ∷ l) (map-more f cs c)
 
-module _ (rows : List (List ℕ)) (r : ℕ) (S : Set) (iv text : List ℕ) where
-  before-is : (n : ℕ) → lastOr (coded S iv) (map (coded S) (cut n text)) ≡ coded S (blockBefore iv text n)
+module _ (rows : List (List ℕ)) (r : ℕ) (f : List ℕ → List ℕ) (iv text : List ℕ) where
+  before-is : (n : ℕ) → lastOr (f iv) (map f (cut n text)) ≡ f (blockBefore iv text n)
   unfolding lastOr blockBefore cut map
   before-is zero = refl
   before-is (suc n) =
-      ap (λ (l : List (List ℕ)). lastOr (coded S iv) (map (coded S) l)) (cut-more n text)
-      ∙ ap (lastOr (coded S iv)) (map-more (coded S) (cut n text) (blockOf text n))
-      ∙ last-snoc (coded S iv) (map (coded S) (cut n text)) (coded S (blockOf text n))
+      ap (λ (l : List (List ℕ)). lastOr (f iv) (map f l)) (cut-more n text)
+      ∙ ap (lastOr (f iv)) (map-more f (cut n text) (blockOf text n))
+      ∙ last-snoc (f iv) (map f (cut n text)) (f (blockOf text n))
 
-  pub opened-blocks : (n : ℕ) → flatten (cbcDeciphered (undoneRounds rows r) (coded S iv) (map (coded S) (cut n text))) ≡ chunks n (openedBlock rows r S iv text)
+  pub opened-blocks : (n : ℕ) → flatten (cbcDeciphered (undoneRounds rows r) (f iv) (map f (cut n text))) ≡ chunks n (openedBlock rows r f iv text)
   unfolding cbcDeciphered cut map flatten chunks openedBlock
   opened-blocks zero = refl
   opened-blocks (suc n) =
-      ap (λ (l : List (List ℕ)). flatten (cbcDeciphered (undoneRounds rows r) (coded S iv) (map (coded S) l))) (cut-more n text)
-      ∙ ap (λ (l : List (List ℕ)). flatten (cbcDeciphered (undoneRounds rows r) (coded S iv) l)) (map-more (coded S) (cut n text) (blockOf text n))
-      ∙ ap flatten (cbc-more (undoneRounds rows r) (coded S iv) (map (coded S) (cut n text)) (coded S (blockOf text n)))
-      ∙ flatten-more (cbcDeciphered (undoneRounds rows r) (coded S iv) (map (coded S) (cut n text))) (xorBlock (undoneRounds rows r (coded S (blockOf text n))) (lastOr (coded S iv) (map (coded S) (cut n text))))
-      ∙ ap₂ {C = List ℕ} (λ (a b : List ℕ). a ++ b) (opened-blocks n) (ap (xorBlock (undoneRounds rows r (coded S (blockOf text n)))) (before-is n))
-      ∙ sym (chunks-more n (openedBlock rows r S iv text))
-      ∙ ap (λ (k : ℕ). chunks k (openedBlock rows r S iv text)) (add-one n)
+      ap (λ (l : List (List ℕ)). flatten (cbcDeciphered (undoneRounds rows r) (f iv) (map f l))) (cut-more n text)
+      ∙ ap (λ (l : List (List ℕ)). flatten (cbcDeciphered (undoneRounds rows r) (f iv) l)) (map-more f (cut n text) (blockOf text n))
+      ∙ ap flatten (cbc-more (undoneRounds rows r) (f iv) (map f (cut n text)) (f (blockOf text n)))
+      ∙ flatten-more (cbcDeciphered (undoneRounds rows r) (f iv) (map f (cut n text))) (xorBlock (undoneRounds rows r (f (blockOf text n))) (lastOr (f iv) (map f (cut n text))))
+      ∙ ap₂ {C = List ℕ} (λ (a b : List ℕ). a ++ b) (opened-blocks n) (ap (xorBlock (undoneRounds rows r (f (blockOf text n)))) (before-is n))
+      ∙ sym (chunks-more n (openedBlock rows r f iv text))
+      ∙ ap (λ (k : ℕ). chunks k (openedBlock rows r f iv text)) (add-one n)
 
--- the text, by the inverted set
-pub opened-text : (rows : List (List ℕ)) (r : ℕ) (s iv text : List ℕ)
-    → openedText (undoneRounds rows r) (setOf s) iv text ≡ chunks (length text / 16) (openedBlock rows r (setOf (inverted 32 s)) iv text)
+pub opened-text : (rows : List (List ℕ)) (r : ℕ) (S : Set) (iv text : List ℕ)
+    → openedText (undoneRounds rows r) S iv text ≡ chunks (length text / 16) (openedBlock rows r (decoded S) iv text)
 unfolding openedText blocks
-opened-text rows r s iv text =
-    let e : decoded (setOf s) ≡ coded (setOf (inverted 32 s)) = fun-ext (decoded-inverted s) in
-    ap (λ (f : List ℕ → List ℕ). flatten (cbcDeciphered (undoneRounds rows r) (f iv) (map f (blocks text)))) e
-    ∙ opened-blocks rows r (setOf (inverted 32 s)) iv text (length text / 16)
+opened-text rows r S iv text = opened-blocks rows r (decoded S) iv text (length text / 16)
+
+-- by what decodes bytes alike
+module _ (rows : List (List ℕ)) (r : ℕ) (f g : List ℕ → List ℕ) (e : (b : List ℕ) → Bytes b → f b ≡ g b) (iv text : List ℕ) (hi : Bytes iv) (ht : Bytes text) where
+  block-bytes : (k : ℕ) → Bytes (blockOf text k)
+  block-bytes k = bytes-take 16 (drop (16 * k) text) (bytes-drop (16 * k) text ht)
+
+  before-bytes : (k : ℕ) → Bytes (blockBefore iv text k)
+  unfolding blockBefore
+  before-bytes zero = hi
+  before-bytes (suc k) = block-bytes k
+
+  pub opened-alike : openedBlock rows r f iv text ≡ openedBlock rows r g iv text
+  unfolding openedBlock
+  opened-alike =
+      fun-ext (λ (k : ℕ).
+      ap₂ (λ (c b : List ℕ). xorBlock (undoneRounds rows r c) b) (e (blockOf text k) (block-bytes k)) (e (blockBefore iv text k) (before-bytes k)))
+
+-- by the table of the inverted set as by the set
+pub decoded-imaged : (s b : List ℕ) → Bytes b → imaged (imagesOf (inverted 32 s)) b ≡ decoded (setOf s) b
+decoded-imaged s b h = imaged-coded (inverted 32 s) b h ∙ sym (decoded-inverted s b)
 
 -- ---- the loop
 
-pub block-opened : (rows : List (List ℕ)) (r : ℕ) (s iv text : List ℕ) → LowSet s → (k : ℕ) → Block (openedBlock rows r (setOf s) iv text k)
+pub block-opened : (rows : List (List ℕ)) (r : ℕ) (f : List ℕ → List ℕ) → ((b : List ℕ) → Block (f b)) → (iv text : List ℕ) (k : ℕ) → Block (openedBlock rows r f iv text k)
 unfolding openedBlock
-block-opened rows r s iv text low k =
-    block-xor (undoneRounds rows r (coded (setOf s) (blockOf text k))) (coded (setOf s) (blockBefore iv text k))
-    (block-undone rows r (coded (setOf s) (blockOf text k)) .bytes) (low-block s (blockBefore iv text k) low .bytes)
+block-opened rows r f hf iv text k =
+    block-xor (undoneRounds rows r (f (blockOf text k))) (f (blockBefore iv text k)) (block-undone rows r (f (blockOf text k)) .bytes) (hf (blockBefore iv text k) .bytes)
 
 module _ (g : ℕ → List ℕ) (h : (k : ℕ) → length (g k) ≡ 16) (out₀ : List ℕ) where
   pub chunks-length : (n : ℕ) → length (chunks n g) ≡ 16 * n
@@ -113,7 +129,25 @@ module _ (g : ℕ → List ℕ) (h : (k : ℕ) → length (g k) ≡ 16) (out₀ 
       put-more (chunks k g) out₀ out y (16 * k) 16 (chunks-length k) eo
       ∙ ap₂ {C = List ℕ} (λ (a : List ℕ) (n : ℕ). a ++ drop n out₀) (ap (λ (b : List ℕ). chunks k g ++ b) ey ∙ sym (chunks-more k g)) q
 
+  -- behind the k blocks opened so far all is as it was
+  pub behind : (k n : ℕ) (out : List ℕ) → k ≤ n → out ≡ chunks k g ++ drop (16 * k) out₀ → drop (16 * n) out ≡ drop (16 * n) out₀
+  behind k n out l e =
+      let q : 16 * n ≡ 16 * k + 16 * (n - k) = omega arith in
+      let d = 16 * (n - k) in
+      ap₂ {C = List ℕ} (λ (j : ℕ) (o : List ℕ). drop j o) q e
+      ∙ sym (drop-drop d (16 * k) (chunks k g ++ drop (16 * k) out₀))
+      ∙ ap (drop d) (drop-at (chunks k g) (drop (16 * k) out₀) (16 * k) (chunks-length k))
+      ∙ drop-drop d (16 * k) out₀
+      ∙ ap (λ (j : ℕ). drop j out₀) (sym q)
+
+  pub own-rest : (k : ℕ) (out : List ℕ) → out ≡ chunks k g ++ drop (16 * k) out₀ → out ≡ chunks k g ++ drop (16 * k) out
+  own-rest k out e = e ∙ ap (λ (r : List ℕ). chunks k g ++ r) (sym (behind k k out (omega arith) e))
+
 -- ---- what the code reads in front of a block
+
+pub before-more : (iv text : List ℕ) (k : ℕ) → blockOf text k ≡ blockBefore iv text (k + 1)
+unfolding blockBefore
+before-more iv text k = ap (blockBefore iv text) (sym (add-one k))
 
 pub before-first : (iv text : List ℕ) (k : ℕ) → length iv ≡ 16 → k ≡ 0 → take 16 (drop 0 iv) ≡ blockBefore iv text k
 unfolding blockBefore
@@ -125,12 +159,3 @@ before-next iv text zero h = absurd (h refl)
 before-next iv text (suc k) h =
     let e : suc k - 1 ≡ k = omega arith in
     ap (λ (n : ℕ). take 16 (drop (16 * n) text)) e
-
--- ---- the first bytes of a block put over those of a buffer
-
-pub part-turn : (d₀ d b : List ℕ) (at n k : ℕ) → at + n ≤ length d₀ → n ≤ 16 → k < n → length b ≡ 16 → d ≡ paste d₀ at b k
-    → set d (at + k) (getD b k 0) ≡ paste d₀ at b (k + 1)
-part-turn d₀ d b at n k h hn hk l e =
-    ap (λ (l : List ℕ). set l (at + k) (getD b k 0)) e
-    ∙ paste-suc d₀ at b k 0 (omega arith) (omega arith)
-    ∙ ap (λ (j : ℕ). paste d₀ at b j) (sym (add-one k))

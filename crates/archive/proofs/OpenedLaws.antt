@@ -14,17 +14,20 @@ use Rattle.lists.proofs.PartLaws.{put-more}
 use Rattle.cipher.specs.KeySize.{rounds, sizeOfKey}
 use Rattle.cipher.specs.Schedule.{schedule}
 use Rattle.cipher.specs.Lea.{undoneRounds, decipher}
-use Rattle.cipher.specs.Coding.{Permutation, FirstPermutations, LowSet, codingAt, setOf, inverted}
+use Rattle.cipher.specs.Coding.{Permutation, FirstPermutations, LowSet, codingAt, setOf, decoded, inverted}
+use Rattle.cipher.specs.Images.{imagesOf, imaged}
 use Rattle.cipher.specs.Chain.{LoneSet}
 use Rattle.cipher.specs.Answers.{badText}
 use Rattle.cipher.specs.declared.size.KeySize.{KeySize}
 use Rattle.cipher.specs.declared.size.SizeFound.the-variants.{Found}
 use Rattle.cipher.proofs.ScheduleLaws.{schedule-words}
+use Rattle.cipher.proofs.CodingLaws.{block-decoded}
 use Rattle.cipher.proofs.InverseLaws.{length-inverted, low-inverted}
+use Rattle.cipher.proofs.ImageLaws.{length-images, bytes-images}
 use Rattle.cipher.proofs.AnswerLaws.{text-known}
-use Rattle.archive.specs.Blocks.{WordRows, openedBlock}
+use Rattle.archive.specs.Blocks.{WordRows, Table, openedBlock}
 use Rattle.archive.specs.Archive.{openedText, lastByte, endsPadded, unpadded, openAnswer}
-use Rattle.archive.proofs.OpenLaws.{opened-text, block-opened, chunks-length}
+use Rattle.archive.proofs.OpenLaws.{opened-text, opened-alike, decoded-imaged, block-opened, chunks-length}
 use Rattle.archive.proofs.PaddingLaws.{ends-text, last-text, unpadded-text, padding-none, padding-some}
 use Rattle.archive.proofs.AnswerLaws.{open-11, open-done}
 
@@ -40,6 +43,9 @@ set-inverts s v = (
 pub codes-ready : (s t : List ℕ) → LoneSet s → t ≡ inverted 32 s → (512 ≤ length t) × LowSet t
 codes-ready s t v e = rw e (omega (arith, length-inverted 32 s), low-inverted s (v .codings))
 
+pub table-ready : (s t : List ℕ) → LoneSet s → t ≡ imagesOf (inverted 32 s) → Table t
+table-ready s t v e = rw e (length-images (inverted 32 s), bytes-images (inverted 32 s) (low-inverted s (v .codings)))
+
 pub rows-ready : (z : KeySize) (key : List ℕ) (rows : List (List ℕ)) → rows ≡ schedule z key → Bytes key → WordRows rows
 rows-ready z key rows e h = rw e (schedule-words z key h)
 
@@ -47,29 +53,31 @@ module _ (key set iv sealed out : List ℕ) (z : KeySize) (ek : sizeOfKey (lengt
     (d : badText (length sealed) ≡ false) (w : length sealed ≤ length out) where
   -- block k, opened, and how many blocks come before the last one
   block : ℕ → List ℕ
-  block = openedBlock (schedule z key) (rounds z) (setOf (inverted 32 set)) iv sealed
+  block = openedBlock (schedule z key) (rounds z) (decoded (setOf set)) iv sealed
 
   before : ℕ
   before = length sealed / 16 - 1
 
   size : (k : ℕ) → length (block k) ≡ 16
   unfolding block
-  size k = block-opened (schedule z key) (rounds z) (inverted 32 set) iv sealed (low-inverted set (v .codings)) k .size
+  size k = block-opened (schedule z key) (rounds z) (decoded (setOf set)) (block-decoded (setOf set) (v .codings)) iv sealed k .size
 
   text-is : openedText (decipher z key) (setOf set) iv sealed ≡ chunks before block ++ block before
   unfolding block before
   text-is =
       let t = text-known (length sealed) d in
       let e : length sealed / 16 ≡ length sealed / 16 - 1 + 1 = omega (arith, t .0, t .2) in
-      opened-text (schedule z key) (rounds z) set iv sealed
-      ∙ ap (λ (n : ℕ). chunks n (openedBlock (schedule z key) (rounds z) (setOf (inverted 32 set)) iv sealed)) e
-      ∙ chunks-more (length sealed / 16 - 1) (openedBlock (schedule z key) (rounds z) (setOf (inverted 32 set)) iv sealed)
+      opened-text (schedule z key) (rounds z) (setOf set) iv sealed
+      ∙ ap (λ (n : ℕ). chunks n (openedBlock (schedule z key) (rounds z) (decoded (setOf set)) iv sealed)) e
+      ∙ chunks-more (length sealed / 16 - 1) (openedBlock (schedule z key) (rounds z) (decoded (setOf set)) iv sealed)
 
-  module _ (rows : List (List ℕ)) (codes last : List ℕ) (p : ℕ) (er : rows ≡ schedule z key) (ec : codes ≡ inverted 32 set)
-      (el : last ≡ openedBlock rows (rounds z) (setOf codes) iv sealed (length sealed / 16 - 1)) (ep : p ≡ cond (endsPadded last) (lastByte last) 0) where
-    same : openedBlock rows (rounds z) (setOf codes) iv sealed ≡ block
+  module _ (hi : Bytes iv) (hs : Bytes sealed) (rows : List (List ℕ)) (table last : List ℕ) (p : ℕ) (er : rows ≡ schedule z key) (et : table ≡ imagesOf (inverted 32 set))
+      (el : last ≡ openedBlock rows (rounds z) (imaged table) iv sealed (length sealed / 16 - 1)) (ep : p ≡ cond (endsPadded last) (lastByte last) 0) where
+    same : openedBlock rows (rounds z) (imaged table) iv sealed ≡ block
     unfolding block
-    same = ap₂ (λ (r : List (List ℕ)) (c : List ℕ). openedBlock r (rounds z) (setOf c) iv sealed) er ec
+    same =
+        ap₂ (λ (r : List (List ℕ)) (t : List ℕ). openedBlock r (rounds z) (imaged t) iv sealed) er et
+        ∙ opened-alike (schedule z key) (rounds z) (imaged (imagesOf (inverted 32 set))) (decoded (setOf set)) (decoded-imaged set) iv sealed hi hs
 
     last-is : last ≡ block before
     unfolding before
@@ -104,7 +112,7 @@ module _ (key set iv sealed out : List ℕ) (z : KeySize) (ek : sizeOfKey (lengt
           ∙ omega (arith, t .0, t .2, few, chunks-length block size out before, length-take-le (16 - p) last (omega (arith, ap length last-is, size before)))
 
       -- there is room for the front of the last block behind the others
-      pub room-left : (o : List ℕ) → o ≡ chunks (length sealed / 16 - 1) (openedBlock rows (rounds z) (setOf codes) iv sealed) ++ drop (16 * (length sealed / 16 - 1)) out
+      pub room-left : (o : List ℕ) → o ≡ chunks (length sealed / 16 - 1) (openedBlock rows (rounds z) (imaged table) iv sealed) ++ drop (16 * (length sealed / 16 - 1)) out
           → 16 * (length sealed / 16 - 1) + (16 - p) ≤ length o
       unfolding before
       room-left o eo =
@@ -113,7 +121,7 @@ module _ (key set iv sealed out : List ℕ) (z : KeySize) (ek : sizeOfKey (lengt
           ap length (eo ∙ ap (λ (g : ℕ → List ℕ). chunks before g ++ drop (16 * before) out) same) ∙ length-append (chunks before block) (drop (16 * before) out) in
           omega (arith, t .0, t .2, few, w, e, chunks-length block size out before, length-drop (16 * before) out)
 
-      pub open-made : (o q : List ℕ) → o ≡ chunks (length sealed / 16 - 1) (openedBlock rows (rounds z) (setOf codes) iv sealed) ++ drop (16 * (length sealed / 16 - 1)) out
+      pub open-made : (o q : List ℕ) → o ≡ chunks (length sealed / 16 - 1) (openedBlock rows (rounds z) (imaged table) iv sealed) ++ drop (16 * (length sealed / 16 - 1)) out
           → q ≡ take (16 * (length sealed / 16 - 1)) o ++ take (16 - p) last ++ drop (16 * (length sealed / 16 - 1) + (16 - p)) o
           → ((0, length sealed - p), q) ≡ openAnswer key set iv sealed out
       unfolding before

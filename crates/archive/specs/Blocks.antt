@@ -1,15 +1,19 @@
--- A sealed text opened block by block, by codes of its own set S and any rows: inner functions' own words for `openedText`.
+-- A sealed text opened block by block, where f decodes a block, under any rows: inner functions' own words for `openedText`.
 -- Assumes nothing.
+use mathlib.Core.Path.{_≡_}
 use mathlib.Core.List.{List, []}
 use Prim.Native.Nat.{ℕ, zero, suc, _^_}
-use lib.ListN.{getD}
-use Rattle.lists.specs.Blocks.{Below, xorBlock, blockOf}
+use lib.ListN.{length, getD}
+use Rattle.lists.specs.Blocks.{Below, Bytes, xorBlock, blockOf}
 use Rattle.cipher.specs.Lea.{undoneRounds}
-use Rattle.cipher.specs.Coding.{Set, coded}
 
 -- rows of words
 abbrev pub WordRows : List (List ℕ) → Type 0
 WordRows rows = (l : ℕ) → Below (2 ^ 32) (getD rows l [])
+
+-- a byte for each byte in each place of a block
+abbrev pub Table : List ℕ → Type 0
+Table t = (length t ≡ 4096) × Bytes t
 
 -- what stands in front of block k of a text: the IV in front of the first
 unfoldable pub blockBefore : List ℕ → List ℕ → ℕ → List ℕ
@@ -17,5 +21,5 @@ blockBefore iv text zero = iv
 blockBefore iv text (suc k) = blockOf text k
 
 -- block k opened
-unfoldable pub openedBlock : List (List ℕ) → ℕ → Set → List ℕ → List ℕ → ℕ → List ℕ
-openedBlock rows r S iv text k = xorBlock (undoneRounds rows r (coded S (blockOf text k))) (coded S (blockBefore iv text k))
+unfoldable pub openedBlock : List (List ℕ) → ℕ → (List ℕ → List ℕ) → List ℕ → List ℕ → ℕ → List ℕ
+openedBlock rows r f iv text k = xorBlock (undoneRounds rows r (f (blockOf text k))) (f (blockBefore iv text k))

@@ -4,12 +4,16 @@ ghost use mathlib.Core.List.{_++_};
 ghost use Prim.Native.Nat.{_+_, _≤_};
 ghost use lib.ListN.{length, take, drop};
 ghost use Rattle.cipher.specs.Refusal.{writtenOf};
+ghost use Rattle.cipher.specs.Coding.{inverted};
+ghost use Rattle.cipher.specs.Images.{imagesOf};
+ghost use Rattle.cipher.specs.Chain.{LoneSet};
 ghost use Rattle.archive.specs.Archive as R;
 use crate::blocks::open_block;
 use crate::blocks::open_blocks;
 use crate::padding::padding;
 use cipher::block::bad_text;
 use cipher::chain::check_set;
+use cipher::image::images;
 use cipher::invert::invert;
 use cipher::refusal::Outcome;
 use cipher::refusal::Refusal;
@@ -26,6 +30,16 @@ fn put_part(out: &mut [u8], at: usize, b: [u8; 16], n: usize)
     for k in 0..n {
         out[at + k] = b[k];
     }
+}
+
+// What each byte of a block decodes to in its place, by a set.
+fn decodings(set: &[u8], table: &mut [u8])
+    requires { ⌜ LoneSet (now set) × (length (now table) ≡ 4096) ⌝ }
+    ensures { λ _. ⌜ now (table .exit) ≡ imagesOf (inverted 32 (now (set .entry))) ⌝ }
+{
+    let mut codes = [0u8; KeySize::SET];
+    invert(set, KeySize::SET_CODINGS, &mut codes);
+    images(&codes, table);
 }
 
 // A sealed file opened under a key, with its set r and its IV: the message into the front of out.
@@ -50,15 +64,15 @@ pub fn open(key: &[u8], set: &[u8], iv: &[u8], sealed: &[u8], out: &mut [u8]) ->
         return Written::Refused(Refusal::ShortBuffer);
     }
     let rows = schedule(size, key);
-    let mut codes = [0u8; KeySize::SET];
-    invert(set, KeySize::SET_CODINGS, &mut codes);
+    let mut table = [0u8; 4096];
+    decodings(set, &mut table);
     let k = n / 16 - 1;
-    let last = open_block(rows, size, &codes, iv, sealed, k);
+    let last = open_block(rows, size, &table, iv, sealed, k);
     let v = padding(last);
     if v == 0 {
         return Written::Refused(Refusal::BadPadding);
     }
-    open_blocks(rows, size, &codes, iv, sealed, k, out);
+    open_blocks(rows, size, &table, iv, sealed, k, out);
     put_part(out, 16 * k, last, 16 - v);
     Written::Bytes(n - v)
 }

@@ -4,10 +4,11 @@ use mathlib.Core.Path.{_≡_, sym, ap, ap₂, _∙_}
 use mathlib.Core.List.{List}
 use Prim.Native.Nat.{ℕ, _+_, _*_, _/_, _%_, _<_}
 use native.Mathlib.Omega.{arith}
-use lib.ListN.{getD}
+use lib.Dec.{lit<}
+use lib.ListN.{length, getD}
 use Rattle.lists.specs.Tabulation.{tab, chunks}
 use Rattle.lists.specs.Blocks.{Bytes, Block}
-use Rattle.lists.proofs.TabulationLaws.{getD-tab, tab-ext}
+use Rattle.lists.proofs.TabulationLaws.{length-tab, getD-tab, tab-ext, tab-below}
 use Rattle.lists.proofs.ChunkLaws.{tab-rows}
 use Rattle.lists.proofs.BlockLaws.{block-tab}
 use Rattle.cipher.specs.Coding.{LowSet, setOf, byteCoded, coded}
@@ -47,6 +48,17 @@ module _ (s : List ℕ) where
   imaged-coded b h =
       tab-ext 16 (λ k. imageAt (imagesOf s) k (getD b k 0)) (λ k. byteCoded s k (getD b k 0)) (λ k l. image-at k (getD b k 0) l (h k))
       ∙ sym (coded-each s b)
+
+-- the table of a set of half bytes is one of bytes
+pub length-images : (s : List ℕ) → length (imagesOf s) ≡ 4096
+unfolding imagesOf
+length-images s = length-tab 4096 (λ i. byteCoded s (i / 256) (i % 256))
+
+pub bytes-images : (s : List ℕ) → LowSet s → Bytes (imagesOf s)
+unfolding imagesOf
+bytes-images s h =
+    tab-below 256 4096 (λ i. byteCoded s (i / 256) (i % 256)) (lit< tt) (λ i l.
+    omega (arith, h (32 * (i / 256) + i % 256 % 16) (omega arith), h (32 * (i / 256) + 16 + i % 256 / 16 % 16) (omega arith)))
 
 -- what any table of bytes makes of a block is a block
 pub block-imaged : (t b : List ℕ) → Bytes t → Block (imaged t b)

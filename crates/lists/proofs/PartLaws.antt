@@ -77,8 +77,8 @@ tab-part s at n h =
     tab-is n (λ k. getD s (at + k) 0) (take n (drop at s)) (length-take-le n (drop at s) (rw length-drop (omega arith)))
     (λ k l. sym (getD-take n (drop at s) k 0 l ∙ getD-drop at s k 0))
 
--- a loop that copies b into d element by element, from a place on
-pub paste-turn : (d₀ d b : List ℕ) (at n k : ℕ) → at + n ≤ length d₀ → k < n → length b ≡ n → d ≡ paste d₀ at b k
+-- a loop that copies the first n of b into d element by element, from a place on
+pub paste-turn : (d₀ d b : List ℕ) (at n k : ℕ) → at + n ≤ length d₀ → k < n → n ≤ length b → d ≡ paste d₀ at b k
     → set d (at + k) (getD b k 0) ≡ paste d₀ at b (k + 1)
 paste-turn d₀ d b at n k h hk l e =
     ap (λ (l : List ℕ). set l (at + k) (getD b k 0)) e

@@ -4,21 +4,28 @@ use Prim.Native.Nat.{_%_, _≤_, _<_}
 use native.Mathlib.Omega.{arith}
 use borrow.Author.Needs.{needs}
 use lib.ListN.{length}
+use Rattle.lists.specs.Blocks.{Bytes}
 use Rattle.lists.proofs.BlockLaws.{bytes-of}
 use Rattle.cipher.specs.KeySize.{keyLength}
-use Rattle.cipher.specs.Coding.{LowSet}
 use Rattle.cipher.specs.Chain.{LoneSet}
-use Rattle.archive.specs.Blocks.{WordRows}
+use Rattle.archive.specs.Blocks.{WordRows, Table}
 use Rattle.cipher.proofs.KeySizeLaws.{found-length}
 use Rattle.cipher.proofs.AnswerLaws.{text-known}
 use Rattle.archive.proofs.AnswerLaws.{set-done, open-1, open-set, open-7, open-8, open-9}
-use Rattle.archive.proofs.OpenedLaws.{set-inverts, codes-ready, rows-ready, open-bad, few, room-left, open-made}
+use Rattle.archive.proofs.OpenedLaws.{table-ready, rows-ready, open-bad, few, room-left, open-made}
 use Rattle.archive.proofs.open.open.Statement.{statement}
 use Rattle.archive.proofs.open.open.Tie as tie
 
 -- the set is one
 set-is : (c : tie.Else1) → LoneSet (c .before .before .before .before .before .before .before .before .before .before .before .before .before .args .set .now)
 set-is c = set-done _ _ (c .before .before .before .check-set .ensures) (c .before .enum-told2 .given .1)
+
+-- the IV and the sealed text are bytes
+texts : (c : tie.Else1) → Bytes (c .before .before .before .before .before .before .before .before .before .before .before .before .before .args .iv .now) × Bytes (c .before .before .before .before .before .before .before .before .before .before .before .before .before .args .sealed .now)
+texts c =
+    let q = c .before .before .before .before .before .before .before .before .before in
+    let a = q .before .before .before .before .args in
+    (bytes-of (a .iv .now) (λ j h. omega (arith, q .before .shared-slice-known3 .given j)), bytes-of (a .sealed .now) (λ j h. omega (arith, q .shared-slice-known4 .given j)))
 
 -- the sealed text is whole blocks
 whole : (c : tie.Else2) → (0 < length (c .before .before .before .before .before .before .before .before .before .before .before .before .before .before .before .args .sealed .now)) × (length (c .before .before .before .before .before .before .before .before .before .before .before .before .before .before .before .args .sealed .now) ≤ 1048576) × (length (c .before .before .before .before .before .before .before .before .before .before .before .before .before .before .before .args .sealed .now) % 16 ≡ 0)
@@ -32,16 +39,15 @@ few-is c =
     let i = t .before .before in
     let s = i .before .before .before .before .before in
     let a = s .before .before .before .before .before .before .before .before .args in
-    few (a .key .now) (a .set .now) (a .iv .now) (a .sealed .now) (a .out .now) _ (sym (s .before .before .of-key-len .ensures) ∙ s .size .given .1) (set-is i) (i .if1 .left) (sym (t .before .bad-text .ensures) ∙ t .if2 .left) (r .before .if3 .left) _ _ _ _ (r .schedule .ensures) (c .before .before .before .before .before .invert .ensures) (c .before .before .open-block .ensures) (c .before .padding .ensures) (c .if4 .left)
+    few (a .key .now) (a .set .now) (a .iv .now) (a .sealed .now) (a .out .now) _ (sym (s .before .before .of-key-len .ensures) ∙ s .size .given .1) (set-is i) (i .if1 .left) (sym (t .before .bad-text .ensures) ∙ t .if2 .left) (r .before .if3 .left) (texts i .0) (texts i .1) _ _ _ _ (r .schedule .ensures) (c .before .before .before .before .before .decodings .ensures) (c .before .before .open-block .ensures) (c .before .padding .ensures) (c .if4 .left)
 
 -- what the functions on blocks ask for
-ready : (c : tie.After-invert) → WordRows (c .before .before .schedule .result) × (512 ≤ length (c .invert .last .1 .1 .0)) × LowSet (c .invert .last .1 .1 .0)
+ready : (c : tie.After-decodings) → WordRows (c .before .before .schedule .result) × Table (c .decodings .last .1 .0)
 ready c =
     let i = c .before .before .before .before .before .before in
     let q = i .before .before .before .before .before .before .before .before .before .before .before .before in
     let a = q .before .args in
-    let r = codes-ready (a .set .now) _ (set-is i) (c .invert .ensures) in
-    (rows-ready _ (a .key .now) _ (c .before .before .schedule .ensures) (bytes-of (a .key .now) (λ j h. omega (arith, q .shared-slice-known .given j))), r .0, r .1)
+    (rows-ready _ (a .key .now) _ (c .before .before .schedule .ensures) (bytes-of (a .key .now) (λ j h. omega (arith, q .shared-slice-known .given j))), table-ready (a .set .now) _ (set-is i) (c .decodings .ensures))
 
 returns : tie.Need-returns
 returns c = sym (open-1 _ _ _ _ _ (sym (c .before .before .of-key-len .ensures) ∙ c .enum-told .given .1))
@@ -75,11 +81,10 @@ schedule-requires c κs =
     let s = c .before .before .before .before .before .before .before .before in
     found-length keyLength _ _ (sym (s .before .before .of-key-len .ensures) ∙ s .size .given .1)
 
-invert-requires : tie.Need-invert-requires
-invert-requires c κs =
+decodings-requires : tie.Need-decodings-requires
+decodings-requires c κs =
     let i = c .before .before .before .before .before in
-    let v = set-inverts _ (set-is i) in
-    (v .0, search needs, v .1)
+    (set-is i, search needs)
 
 sub-k : tie.Need-sub-k
 sub-k c =
@@ -91,7 +96,7 @@ open-block-requires c κs =
     let t = c .before .before .before .before .before .before in
     let i = t .before .before in
     let r = ready (c .before .before) in
-    (r .0, r .1, r .2, i .if1 .left, omega (arith, whole t .0, whole t .2))
+    (r .0, r .1, i .if1 .left, omega (arith, whole t .0, whole t .2))
 
 returns-6 : tie.Need-returns-6
 returns-6 c =
@@ -99,7 +104,7 @@ returns-6 c =
     let t = r .before .before in
     let i = t .before .before in
     let s = i .before .before .before .before .before in
-    sym (open-bad _ _ _ _ _ _ (sym (s .before .before .of-key-len .ensures) ∙ s .size .given .1) (set-is i) (i .if1 .left) (sym (t .before .bad-text .ensures) ∙ t .if2 .left) (r .before .if3 .left) _ _ _ _ (r .schedule .ensures) (c .before .before .before .before .before .invert .ensures) (c .before .before .open-block .ensures) (c .before .padding .ensures) (c .if4 .taken))
+    sym (open-bad _ _ _ _ _ _ (sym (s .before .before .of-key-len .ensures) ∙ s .size .given .1) (set-is i) (i .if1 .left) (sym (t .before .bad-text .ensures) ∙ t .if2 .left) (r .before .if3 .left) (texts i .0) (texts i .1) _ _ _ _ (r .schedule .ensures) (c .before .before .before .before .before .decodings .ensures) (c .before .before .open-block .ensures) (c .before .padding .ensures) (c .if4 .taken))
 
 open-blocks-requires : tie.Need-open-blocks-requires
 open-blocks-requires c κs =
@@ -107,7 +112,7 @@ open-blocks-requires c κs =
     let t = f .before .before .before .before .before .before .before .before .before in
     let i = t .before .before in
     let r = ready (f .before .before .before .before .before) in
-    (r .0, r .1, r .2, i .if1 .left, omega (arith, whole t .0, whole t .1, whole t .2), omega (arith, whole t .0, whole t .2), omega (arith, whole t .0, whole t .2, f .before .before .before .before .before .before .before .before .if3 .left))
+    (r .0, r .1, i .if1 .left, omega (arith, whole t .0, whole t .1, whole t .2), omega (arith, whole t .0, whole t .2), omega (arith, whole t .0, whole t .2, f .before .before .before .before .before .before .before .before .if3 .left))
 
 mul-put-part : tie.Need-mul-put-part
 mul-put-part c =
@@ -125,7 +130,7 @@ put-part-requires c κs =
     let t = r .before .before in
     let i = t .before .before in
     let s = i .before .before .before .before .before in
-    (omega arith, room-left _ _ _ _ _ _ (sym (s .before .before .of-key-len .ensures) ∙ s .size .given .1) (set-is i) (i .if1 .left) (sym (t .before .bad-text .ensures) ∙ t .if2 .left) (r .before .if3 .left) _ _ _ _ (r .schedule .ensures) (f .before .before .before .before .before .invert .ensures) (f .before .before .open-block .ensures) (f .before .padding .ensures) (f .if4 .left) _ (c .before .before .before .open-blocks .ensures))
+    (omega arith, room-left _ _ _ _ _ _ (sym (s .before .before .of-key-len .ensures) ∙ s .size .given .1) (set-is i) (i .if1 .left) (sym (t .before .bad-text .ensures) ∙ t .if2 .left) (r .before .if3 .left) (texts i .0) (texts i .1) _ _ _ _ (r .schedule .ensures) (f .before .before .before .before .before .decodings .ensures) (f .before .before .open-block .ensures) (f .before .padding .ensures) (f .if4 .left) _ (c .before .before .before .open-blocks .ensures))
 
 sub-t15 : tie.Need-sub-t15
 sub-t15 c =
@@ -140,7 +145,7 @@ returns-7 c =
     let t = r .before .before in
     let i = t .before .before in
     let s = i .before .before .before .before .before in
-    open-made _ _ _ _ _ _ (sym (s .before .before .of-key-len .ensures) ∙ s .size .given .1) (set-is i) (i .if1 .left) (sym (t .before .bad-text .ensures) ∙ t .if2 .left) (r .before .if3 .left) _ _ _ _ (r .schedule .ensures) (f .before .before .before .before .before .invert .ensures) (f .before .before .open-block .ensures) (f .before .padding .ensures) (f .if4 .left) _ _ (c .before .before .before .before .before .before .open-blocks .ensures) (c .before .before .put-part .ensures)
+    open-made _ _ _ _ _ _ (sym (s .before .before .of-key-len .ensures) ∙ s .size .given .1) (set-is i) (i .if1 .left) (sym (t .before .bad-text .ensures) ∙ t .if2 .left) (r .before .if3 .left) (texts i .0) (texts i .1) _ _ _ _ (r .schedule .ensures) (f .before .before .before .before .before .decodings .ensures) (f .before .before .open-block .ensures) (f .before .padding .ensures) (f .if4 .left) _ _ (c .before .before .before .before .before .before .open-blocks .ensures) (c .before .before .put-part .ensures)
 
 pub open-spec : {M : Type 1} → statement M
-open-spec = tie.close (tie.spec (λ c κs. search needs) (λ c. search needs) (λ c. search needs) returns (λ c κs. search needs) (λ c. search needs) returns-2 (λ c. search needs) returns-3 (λ c κs. search needs) returns-4 returns-5 schedule-requires (λ c. search needs) invert-requires sub-k (λ c. search needs) open-block-requires (λ c κs. search needs) returns-6 (λ c. search needs) open-blocks-requires mul-put-part sub-put-part put-part-requires sub-t15 (λ c. search needs) returns-7)
+open-spec = tie.close (tie.spec (λ c κs. search needs) (λ c. search needs) (λ c. search needs) returns (λ c κs. search needs) (λ c. search needs) returns-2 (λ c. search needs) returns-3 (λ c κs. search needs) returns-4 returns-5 schedule-requires (λ c. search needs) decodings-requires sub-k (λ c. search needs) open-block-requires (λ c κs. search needs) returns-6 (λ c. search needs) open-blocks-requires mul-put-part sub-put-part put-part-requires sub-t15 (λ c. search needs) returns-7)

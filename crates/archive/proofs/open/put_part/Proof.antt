@@ -6,7 +6,7 @@ use native.Mathlib.Omega.{arith}
 use borrow.Author.Needs.{needs}
 use lib.ListN.{length, take, drop, length-set}
 use lib.Seq.{paste, paste-zero}
-use Rattle.archive.proofs.OpenLaws.{part-turn}
+use Rattle.lists.proofs.PartLaws.{paste-turn}
 use Rattle.archive.proofs.open.put_part.Statement.{statement}
 use Rattle.archive.proofs.open.put_part.Tie as tie
 
@@ -23,7 +23,7 @@ loop-again : tie.Need-loop-again Inv-loop μ-loop
 loop-again c =
     let v = c .before .loop .inv in
     let a = c .before .before .args in
-    (omega arith, v .1, part-turn (a .out .now) (c .before .loop .out) (a .t3) (a .at) (a .n) (c .before .loop .k) (c .before .before .pre .1) (c .before .before .pre .0) (omega arith) (v .1) (v .2), simp length-set (v .3))
+    (omega arith, v .1, paste-turn (a .out .now) (c .before .loop .out) (a .t3) (a .at) (a .n) (c .before .loop .k) (c .before .before .pre .1) (omega arith) (omega (arith, c .before .before .pre .0, v .1)) (v .2), simp length-set (v .3))
 
 returns : tie.Need-returns Inv-loop μ-loop
 returns c =

@@ -21,7 +21,7 @@ loop-holds c = (omega arith, search needs, paste-zero (c .args .d .now) (c .args
 loop-again : tie.Need-loop-again Inv-loop μ-loop
 loop-again c =
     let v = c .before .loop .inv in
-    (omega arith, v .1, paste-turn _ _ _ _ 16 _ (c .before .before .pre) (omega arith) (v .1) (v .2), simp length-set (v .3))
+    (omega arith, v .1, paste-turn _ _ _ _ 16 _ (c .before .before .pre) (omega arith) (omega arith) (v .2), simp length-set (v .3))
 
 returns : tie.Need-returns Inv-loop μ-loop
 returns c =
