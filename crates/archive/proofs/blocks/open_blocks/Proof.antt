@@ -28,6 +28,16 @@ Inv-loop2 size table iv sealed n out₀ rows fours k₀ out k = (k ≤ n) × (ou
 abbrev μ-loop2 : tie.MeasureT-loop2
 μ-loop2 size table iv sealed n out₀ rows fours k₀ out k = n - k
 
+-- block k opened, and its length
+abbrev opened : tie.Start Inv-loop μ-loop Inv-loop2 μ-loop2 → ℕ → List ℕ
+opened s = openedBlock (s .args .t1) (rounds (s .args .size)) (imaged (s .args .table .now)) (s .args .iv .now) (s .args .sealed .now)
+
+block-is : (s : tie.Start Inv-loop μ-loop Inv-loop2 μ-loop2) (b : List ℕ) → Block (imaged (s .args .table .now) b)
+block-is s b = block-imaged (s .args .table .now) b (s .pre .1 .1)
+
+sized : (s : tie.Start Inv-loop μ-loop Inv-loop2 μ-loop2) (k : ℕ) → length (opened s k) ≡ 16
+sized s k = block-opened (s .args .t1) (rounds (s .args .size)) (imaged (s .args .table .now)) (block-is s) (s .args .iv .now) (s .args .sealed .now) k .size
+
 -- there is room for four blocks more
 room : (c : tie.In-loop Inv-loop μ-loop Inv-loop2 μ-loop2) → (16 * (4 * c .before .loop .j) + 64 ≤ 1048576) × (16 * (4 * c .before .loop .j) + 64 ≤ length (c .before .loop .out))
 room c =
@@ -84,11 +94,8 @@ loop-again c =
     let a = s .args in
     let k = 4 * l .loop .j in
     let f = imaged (a .table .now) in
-    let g = openedBlock (a .t1) (rounds (a .size)) f (a .iv .now) (a .sealed .now) in
-    let hf : (b : List ℕ) → Block (f b) = λ b. block-imaged (a .table .now) b (s .pre .1 .1) in
-    let size : (n : ℕ) → length (g n) ≡ 16 = λ n. block-opened (a .t1) (rounds (a .size)) f hf (a .iv .now) (a .sealed .now) n .size in
-    let block = opened-words (a .t1) (s .pre .0) (rounds (a .size)) f hf (a .iv .now) (a .sealed .now) in
-    let turn = open-turn g size (a .out .now) in
+    let block = opened-words (a .t1) (s .pre .0) (rounds (a .size)) f (block-is s) (a .iv .now) (a .sealed .now) in
+    let turn = open-turn (opened s) (sized s) (a .out .now) in
     let next : (n : ℕ) → words4 (f (blockOf (a .sealed .now) n)) ≡ words4 (f (blockBefore (a .iv .now) (a .sealed .now) (n + 1))) = λ n. ap (λ (b : List ℕ). words4 (f b)) (before-more (a .iv .now) (a .sealed .now) n) in
     let b1 = block k _ _ _ _ (t1 .before .before-words .ensures) (t1 .decoded-words .ensures) (y .decipher-four .ensures .0) refl in
     let b2 = block (k + 1) _ _ _ _ (t1 .decoded-words .ensures ∙ next k) (t2 .decoded-words2 .ensures) (y .decipher-four .ensures .1) refl in
@@ -100,7 +107,7 @@ loop-again c =
     let o4 = p4 .put-xored4 .ensures ∙ turn (k + 1 + 1 + 1) _ _ o3 b4 in
     let e : k + 1 + 1 + 1 + 1 ≡ 4 * (l .loop .j + 1) = omega arith in (
       omega arith,
-      o4 ∙ (λ i. chunks (e i) g ++ drop (16 * e i) (a .out .now)),
+      o4 ∙ (λ i. chunks (e i) (opened s) ++ drop (16 * e i) (a .out .now)),
       p4 .put-xored4 .kept .0 ∙ p3 .put-xored3 .kept .0 ∙ p2 .put-xored2 .kept .0 ∙ p1 .put-xored .kept .0 ∙ l .loop .inv .2,
     )
 
@@ -109,11 +116,9 @@ loop2-holds c =
     let l = c .before in
     let s = l .before .before .before .before .before in
     let a = s .args in
-    let g = openedBlock (a .t1) (rounds (a .size)) (imaged (a .table .now)) (a .iv .now) (a .sealed .now) in
     let e : 4 * l .loop .j ≡ 4 * (a .n / 4) = omega arith in (
       omega arith,
-      own-rest g (λ n. block-opened (a .t1) (rounds (a .size)) (imaged (a .table .now)) (λ b. block-imaged (a .table .now) b (s .pre .1 .1)) (a .iv .now) (a .sealed .now) n .size) (a .out .now) (4 * (a .n / 4)) (l .loop .out)
-          (l .loop .inv .1 ∙ (λ i. chunks (e i) g ++ drop (16 * e i) (a .out .now))),
+      own-rest (opened s) (sized s) (a .out .now) (4 * (a .n / 4)) (l .loop .out) (l .loop .inv .1 ∙ (λ i. chunks (e i) (opened s) ++ drop (16 * e i) (a .out .now))),
       refl,
     )
 
@@ -122,13 +127,10 @@ loop2-again c =
     let p = c .before .before in
     let m = p .before .before .before .before in
     let l = m .before .before in
-    let s = l .before .before .before .before .before in
-    let a = s .args in (
+    let s = l .before .before .before .before .before in (
       omega arith,
       p .put-block .ensures
-          ∙ open-turn (openedBlock (a .t1) (rounds (a .size)) (imaged (a .table .now)) (a .iv .now) (a .sealed .now))
-          (λ n. block-opened (a .t1) (rounds (a .size)) (imaged (a .table .now)) (λ b. block-imaged (a .table .now) b (s .pre .1 .1)) (a .iv .now) (a .sealed .now) n .size)
-          (l .loop .out) (m .loop2 .k) (m .loop2 .out) _ (m .loop2 .inv .1) (p .before .open-block .ensures),
+          ∙ open-turn (opened s) (sized s) (l .loop .out) (m .loop2 .k) (m .loop2 .out) _ (m .loop2 .inv .1) (p .before .open-block .ensures),
       p .put-block .kept .0 ∙ m .loop2 .inv .2,
     )
 
@@ -141,12 +143,11 @@ returns c =
     let l = m .before .before in
     let s = l .before .before .before .before .before in
     let a = s .args in
-    let g = openedBlock (a .t1) (rounds (a .size)) (imaged (a .table .now)) (a .iv .now) (a .sealed .now) in
     let e : m .loop2 .k ≡ a .n = omega arith in
     m .loop2 .inv .1
-    ∙ (λ i. chunks (e i) g ++ drop (16 * e i) (l .loop .out))
-    ∙ ap (λ (r : List ℕ). chunks (a .n) g ++ r)
-    (behind g (λ n. block-opened (a .t1) (rounds (a .size)) (imaged (a .table .now)) (λ b. block-imaged (a .table .now) b (s .pre .1 .1)) (a .iv .now) (a .sealed .now) n .size) (a .out .now) (4 * l .loop .j) (a .n) (l .loop .out) (omega arith) (l .loop .inv .1))
+    ∙ (λ i. chunks (e i) (opened s) ++ drop (16 * e i) (l .loop .out))
+    ∙ ap (λ (r : List ℕ). chunks (a .n) (opened s) ++ r)
+    (behind (opened s) (sized s) (a .out .now) (4 * l .loop .j) (a .n) (l .loop .out) (omega arith) (l .loop .inv .1))
 
 pub open-blocks-spec : {M : Type 1} → statement M
 open-blocks-spec = tie.close (tie.spec Inv-loop μ-loop Inv-loop2 μ-loop2 loop-holds (λ c. search needs) (λ c. search needs) (λ c. search needs) (λ c. search needs) (λ c κs. search needs) (λ c. search needs) (λ c κs. search needs) (λ c. search needs) (λ c κs. search needs) (λ c. search needs) (λ c κs. search needs) (λ c. search needs) (λ c κs. search needs) (λ c κs. search needs) mul-put-xored put-xored-requires mul-put-xored-2 put-xored-requires-2 mul-put-xored-3 put-xored-requires-3 mul-put-xored-4 put-xored-requires-4 add-j loop-less loop-again (λ c. search needs) loop2-holds (λ c. search needs) (λ c κs. search needs) (λ c κs. search needs) (λ c. search needs) (λ c. search needs) loop2-again same-length returns)
