@@ -6,13 +6,13 @@ use Prim.Native.Nat.{ℕ, _+_, _*_, _/_, _%_, _<_}
 use native.Mathlib.Omega.{arith}
 use lib.ListN.{length, getD}
 use Rattle.lists.specs.Tabulation.{tab, chunks}
-use Rattle.lists.specs.Blocks.{Bytes, Block}
+use Rattle.lists.specs.Blocks.{Bytes}
 use Rattle.lists.specs.HalfBytes.{halfByte}
 use Rattle.lists.proofs.TabulationLaws.{length-tab, getD-tab, tab-ext}
 use Rattle.lists.proofs.ChunkLaws.{length-chunks, getD-chunks}
 use Rattle.cipher.specs.Coding.{Permutations, LowSet, decode, codingAt, setOf, byteCoded, blockHalf, ofHalves, coded, decoded, inverted}
 use Rattle.cipher.proofs.Permutation.{decode-lt}
-use Rattle.cipher.proofs.CodingLaws.{blockHalf-lt, ofHalves-ext, block-halves}
+use Rattle.cipher.proofs.CodingLaws.{blockHalf-lt, ofHalves-ext}
 
 -- ---- inverted codings
 
@@ -80,8 +80,3 @@ low-inverted s p i h =
     subst (λ (n : ℕ). getD (inverted 32 s) n 0 < 16) e
     (rw (inverted-at 32 s (8 * (i / 128) + i / 16 % 8) (i % 16) (omega arith) (omega arith))
     (decode-lt (setOf s (i / 128) (i / 16 % 8)) (p (i / 128) (i / 16 % 8) (omega arith) (omega arith)) (i % 16) (omega arith)))
-
--- a block coded by a set of half bytes is a block
-pub low-block : (s b : List ℕ) → LowSet s → Block (coded (setOf s) b)
-unfolding coded
-low-block s b h = block-halves _ (λ w j hw hj. let v = blockHalf-lt b w j in h (16 * (8 * w + j) + blockHalf b w j) (omega arith))
