@@ -27,9 +27,9 @@ use Rattle.cipher.specs.Book.{addPart, turnPart, roundPart, foldPart, groupPart
 use Rattle.cipher.proofs.Permutation.{decode-lt}
 use Rattle.cipher.proofs.InverseLaws.{length-inverted, inverted-at}
 use Rattle.cipher.proofs.TableLaws.{add-rows, turn-rows, fold-rows}
-use Rattle.book.specs.Rows.{sumRow, sumTable, xorRow, xorTable}
-use Rattle.book.specs.Made.{RoundBytes, RoundReady, codingsOf, keyedBy, summands, sumEntries, madeAdd, upperPart, lowerPart, upperParts, lowerParts, madeTurn, madeFold}
-use Rattle.book.proofs.MadeLaws.{length-add, length-turn, length-fold}
+use Rattle.entries.specs.Rows.{sumRow, sumTable, xorRow, xorTable}
+use Rattle.entries.specs.Made.{RoundBytes, RoundReady, codingsOf, keyedBy, summands, sumEntries, madeAdd, upperPart, lowerPart, upperParts, lowerParts, madeTurn, madeFold}
+use Rattle.entries.proofs.MadeLaws.{length-add, length-turn, length-fold}
 
 -- ---- tables by their entries
 

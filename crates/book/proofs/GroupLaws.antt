@@ -16,8 +16,8 @@ use Rattle.lists.proofs.PartLaws.{grown-part, grown-whole}
 use Rattle.cipher.specs.Coding.{FirstPermutations, setOf, coded, inverted}
 use Rattle.cipher.specs.Book.{groupPart}
 use Rattle.cipher.proofs.InverseLaws.{codedByte, coded-bytes}
-use Rattle.book.specs.Made.{madeFold, threeKeys}
-use Rattle.book.proofs.MadeLaws.{length-fold}
+use Rattle.entries.specs.Made.{madeFold, threeKeys}
+use Rattle.entries.proofs.MadeLaws.{length-fold}
 use Rattle.book.proofs.BuildLaws.{group-is}
 
 -- ---- the start

@@ -1,5 +1,3 @@
-pub mod RowLaws
-pub mod MadeLaws
 pub mod BuildLaws
 pub mod GroupLaws
 pub mod AnswerLaws

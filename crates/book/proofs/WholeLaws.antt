@@ -20,7 +20,7 @@ use Rattle.cipher.specs.Chain.{Chain, roundCodings, chainSet, messageSet}
 use Rattle.cipher.specs.Book.{startPart, groupPart, groupKey, bookGroup, bookRound, bookOf}
 use Rattle.cipher.proofs.BookLaw.{group-size, round-size}
 use Rattle.cipher.specs.declared.size.KeySize.{KeySize}
-use Rattle.book.specs.Made.{threeKeys}
+use Rattle.entries.specs.Made.{threeKeys}
 use Rattle.book.proofs.BuildLaws.{sets-permute}
 
 -- set r of a valid chain, from its place on

@@ -6,11 +6,11 @@ ghost use Rattle.lists.specs.Tabulation.{chunks};
 ghost use Rattle.lists.specs.Blocks.{zeros};
 ghost use Rattle.cipher.specs.Coding.{FirstPermutations, setOf, coded};
 ghost use Rattle.cipher.specs.Book.{groupPart};
-ghost use Rattle.book.specs.Made.{threeKeys};
-use crate::folds::fold_tables;
+ghost use Rattle.entries.specs.Made.{threeKeys};
 use cipher::cmac::SubkeyPair;
 use cipher::invert::invert;
 use cipher::size::KeySize;
+use entries::folds::fold_tables;
 
 // A byte of the start: the images of zero by the codings of its low half and of its high half.
 fn start_byte(low: u8, high: u8) -> u8

@@ -7,11 +7,11 @@ ghost use Rattle.lists.specs.Tabulation.{chunks};
 ghost use Rattle.cipher.specs.KeySize as S;
 ghost use Rattle.cipher.specs.Chain.{Chain, roundCodings};
 ghost use Rattle.cipher.specs.Book.{roundPart, bookRound};
-ghost use Rattle.book.specs.Made.{RoundReady, codingsOf};
-use crate::adds::add_tables;
-use crate::turns::turn_tables;
+ghost use Rattle.entries.specs.Made.{RoundReady, codingsOf};
 use cipher::invert::invert;
 use cipher::size::KeySize;
+use entries::adds::add_tables;
+use entries::turns::turn_tables;
 
 // The bytes of a round's add tables.
 const ADDS: usize = KeySize::SET * KeySize::MIDDLES;

@@ -7,7 +7,7 @@ use lib.ListN.{length, length-drop}
 use lib.Seq.{length-take-le}
 use Rattle.lists.proofs.PartLaws.{part-end}
 use Rattle.cipher.specs.KeySize.{rounds}
-use Rattle.book.specs.Made.{threeKeys}
+use Rattle.entries.specs.Made.{threeKeys}
 use Rattle.book.proofs.BuildLaws.{message-permutes}
 use Rattle.book.proofs.WholeLaws.{last-set, start-length, groups-length, groups-room, after-length, rounds-room, all-joined, all-length, rounds-length, behind, book-is}
 use Rattle.book.proofs.build.fill.Statement.{statement}

@@ -1,0 +1,6 @@
+// The entries of single tables (document 01, "Book"): add, turn and fold tables, from the codings that
+// they take in and give. The inner part of building a book.
+pub mod adds;
+pub mod folds;
+mod rows;
+pub mod turns;
