@@ -1,1 +1,2 @@
 pub mod IntoLaws
+pub mod RecordLaws
