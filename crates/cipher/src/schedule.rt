@@ -2,9 +2,12 @@
 // Each step takes its δ from the front of a queue, already turned by the step's count, and puts it behind, turned for the
 // step that it comes back in.
 ghost use mathlib.Core.Path.{_≡_};
-ghost use Prim.Native.Nat.{_≤_, _<_};
-ghost use lib.ListN.{length};
+ghost use mathlib.Core.List.{[], _∷_, _++_};
+ghost use Prim.Native.Nat.{_+_, _≤_, _<_};
+ghost use lib.ListN.{length, getD};
+ghost use Rattle.lists.specs.Tabulation.{tab};
 ghost use Rattle.cipher.specs.KeySize.{keyLength};
+ghost use Rattle.cipher.specs.Word.{rol};
 ghost use Rattle.cipher.specs.Schedule as S;
 use crate::size::KeySize;
 use crate::word::rotate_left;
@@ -124,6 +127,28 @@ fn words8(key: &[u8]) -> [u32; 8]
     ]
 }
 
+// The six words in front of a queue of eight.
+fn front(t: [u32; 8]) -> [u32; 6]
+    ensures { λ r. ⌜ r ≡ tab 6 (λ k. getD t k 0) ⌝ }
+{
+    [t[0], t[1], t[2], t[3], t[4], t[5]]
+}
+
+// The queue after these six went behind, mixed.
+fn queued(t: [u32; 8], r: [u32; 6]) -> [u32; 8]
+    ensures { λ q. ⌜ q ≡ getD t 6 0 ∷ getD t 7 0 ∷ tab 6 (λ k. getD r k 0) ⌝ }
+{
+    [t[6], t[7], r[0], r[1], r[2], r[3], r[4], r[5]]
+}
+
+// A queue of eight constants, the first gone behind, turned by eight.
+fn turned(d: [u32; 8]) -> [u32; 8]
+    ensures { λ r. ⌜ r ≡ tab 7 (λ k. getD d (k + 1) 0) ++ (rol 8 (getD d 0 0) ∷ []) ⌝ }
+{
+    let last = rotate_left(d[0], 8);
+    [d[1], d[2], d[3], d[4], d[5], d[6], d[7], last]
+}
+
 // The rows of a key of 32 bytes. The words too are a queue: a step takes six, and puts them behind, mixed.
 fn schedule32(key: &[u8]) -> [[u32; 6]; 32]
     requires { ⌜ length (now key) ≡ 32 ⌝ }
@@ -133,19 +158,12 @@ fn schedule32(key: &[u8]) -> [[u32; 6]; 32]
     let mut t = words8(key);
     let mut d = [D0, D1, D2, D3, D4, D5, D6, D7];
     for i in 0..32 {
-        let r = mixed_row(d[0], [t[0], t[1], t[2], t[3], t[4], t[5]]);
+        let r = mixed_row(d[0], front(t));
         rows[i] = r;
-        t = [t[6], t[7], r[0], r[1], r[2], r[3], r[4], r[5]];
-        d = [
-            d[1],
-            d[2],
-            d[3],
-            d[4],
-            d[5],
-            d[6],
-            d[7],
-            rotate_left(d[0], 8),
-        ];
+        let q = queued(t, r);
+        t = q;
+        let e = turned(d);
+        d = e;
     }
     rows
 }

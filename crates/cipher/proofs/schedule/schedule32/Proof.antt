@@ -5,10 +5,10 @@ use mathlib.Core.List.{List}
 use Prim.Native.Nat.{ℕ, _-_, _≤_}
 use native.Mathlib.Omega.{arith}
 use borrow.Author.Needs.{needs}
-use lib.ListN.{length}
+use lib.ListN.{length, getD}
 use Rattle.lists.specs.Tabulation.{tab}
 use Rattle.cipher.specs.Word.{turnLeft}
-use Rattle.cipher.specs.Schedule.{place, words4, words8, step32, row32, stepped, rowsOf, filled}
+use Rattle.cipher.specs.Schedule.{place, words4, words8, step32, row32, stepped, rowsOf, filled, mixedRow}
 use Rattle.cipher.proofs.ScheduleLaws.{deltas, deltas-more, stored}
 use Rattle.cipher.proofs.Schedule32.{queued, row-front, queue-more}
 use Rattle.cipher.proofs.schedule.schedule32.Statement.{statement}
@@ -29,12 +29,17 @@ loop-holds c =
 loop-again : tie.Need-loop-again Inv-loop μ-loop
 unfolding tab words4 words8
 loop-again c =
-    let h = c .before .before .before .loop in
-    let w = c .before .before .before .before .words8 in
-    let r = c .before .mixed-row .result in
+    let m = c .before .before in
+    let h = m .before .before .before .loop in
+    let w = m .before .before .before .before .words8 in
+    let r = m .mixed-row .result in
     let s = ap length (w .ensures) in
-    let e = c .before .mixed-row .ensures in
-    (omega arith, deltas-more 7 (h .i) (c .rotate-left .result) (h .d) (h .inv .1) (c .rotate-left .ensures), queue-more (h .i) (h .d) (w .result) (h .t) r s (h .inv .1) (h .inv .2) e, stored step32 row32 (h .i) (w .result) (h .rows) r (omega arith) (h .inv .3) (row-front (h .i) (h .d) (w .result) (h .t) r s (h .inv .1) (h .inv .2) e))
+    let e = m .mixed-row .ensures ∙ ap (mixedRow (getD (h .d) 0 0) 0) (m .before .front .ensures) in (
+      omega arith,
+      c .turned .ensures ∙ deltas-more 7 (h .i) _ (h .d) (h .inv .1) refl,
+      c .before .queued .ensures ∙ queue-more (h .i) (h .d) (w .result) (h .t) r s (h .inv .1) (h .inv .2) e,
+      stored step32 row32 (h .i) (w .result) (h .rows) r (omega arith) (h .inv .3) (row-front (h .i) (h .d) (w .result) (h .t) r s (h .inv .1) (h .inv .2) e),
+    )
 
 returns : tie.Need-returns Inv-loop μ-loop
 returns c =
@@ -43,4 +48,4 @@ returns c =
     h .loop .inv .3 ∙ ap₂ (λ (n : ℕ) (t : List ℕ). filled step32 row32 n t) e (h .before .words8 .ensures)
 
 pub schedule32-spec : {M : Type 1} → statement M
-schedule32-spec = tie.close (tie.spec Inv-loop μ-loop (λ c κs. search needs) loop-holds (λ c. search needs) (λ c. search needs) (λ c. search needs) (λ c. search needs) (λ c. search needs) (λ c. search needs) (λ c. search needs) (λ c κs. search needs) (λ c. search needs) (λ c. search needs) (λ c. search needs) (λ c. search needs) (λ c. search needs) (λ c. search needs) (λ c. search needs) (λ c. search needs) (λ c. search needs) (λ c. search needs) (λ c. search needs) (λ c. search needs) (λ c. search needs) (λ c. search needs) (λ c. search needs) (λ c. search needs) (λ c. search needs) (λ c. search needs) (λ c κs. search needs) (λ c. search needs) (λ c. search needs) loop-again returns)
+schedule32-spec = tie.close (tie.spec Inv-loop μ-loop (λ c κs. search needs) loop-holds (λ c. search needs) (λ c κs. search needs) (λ c κs. search needs) (λ c. search needs) (λ c. search needs) (λ c κs. search needs) (λ c κs. search needs) (λ c. search needs) (λ c. search needs) loop-again returns)
