@@ -407,26 +407,14 @@ impl Session {
     /// Begins the session.
     #[inline]
     pub fn begin(&mut self, book: &[u8]) -> u32 {
-        unsafe {
-            c::bowlinette_begin(
-                self,
-                book.as_ptr(),
-                book.len(),
-            )
-        }
+        unsafe { c::bowlinette_begin(self, book.as_ptr(), book.len()) }
     }
 
     /// A block call.
     #[inline]
     pub fn block_call(&mut self, book: &[u8], coded: &[u8]) -> u32 {
         unsafe {
-            c::bowlinette_block_call(
-                self,
-                book.as_ptr(),
-                book.len(),
-                coded.as_ptr(),
-                coded.len(),
-            )
+            c::bowlinette_block_call(self, book.as_ptr(), book.len(), coded.as_ptr(), coded.len())
         }
     }
 

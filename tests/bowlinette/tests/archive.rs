@@ -1,54 +1,16 @@
 //! Opening and checking on both versions: whole ways from a message to the archive's answer, damaged
 //! files and tags, each refusal, and what stays as it was.
 
-#[path = "shared/chains.rs"]
-mod chains;
-#[path = "shared/cmac.rs"]
-mod cmac;
-#[path = "shared/random.rs"]
-mod random;
-
-use cmac::cmac;
-use random::Random;
-use reference::archive;
 use reference::chain::{self, CODING, SET};
-use reference::lea::{self, Block};
+use reference::lea::Block;
 use reference::Size;
-
-/// What buffers, lengths and answers hold before a call.
-const FILL: u8 = 0xa5;
-const LENGTH: u64 = 0x5a5a_5a5a_5a5a_5a5a;
+use shared::archive::{check, open, sealed_text};
+use shared::cmac::cmac;
+use shared::{chains, Random};
 
 /// The longest message, and the longest sealed one.
 const LONGEST: usize = 1_048_575;
 const SEALED: usize = 1_048_576;
-
-/// A sealed file opened into a filled buffer of a length: the message. Both versions must do the
-/// same, and leave the buffer behind the message as it was; a refusal all of it, and the length.
-fn open(key: &[u8], set: &[u8], iv: &[u8], sealed: &[u8], room: usize) -> Result<Vec<u8>, u32> {
-    let (mut out, mut other) = (vec![FILL; room], vec![FILL; room]);
-    let mut length = LENGTH;
-    let number = bowlinette::open(key, set, iv, sealed, &mut out, &mut length);
-    let want = archive::open(key, set, iv, sealed, &mut other);
-    let given = (key.len(), set.len(), iv.len(), sealed.len(), room);
-    assert_eq!(number, want.err().unwrap_or(0), "{given:?}");
-    assert_eq!(length, want.map_or(LENGTH, |n| n as u64), "{given:?}");
-    assert!(out == other, "{given:?}: the bytes differ");
-    let behind = &out[want.unwrap_or(0)..];
-    assert!(behind.iter().all(|&x| x == FILL), "{given:?}: {number}");
-    want.map(|n| out[..n].to_vec())
-}
-
-/// Whether a tag is Valid, the same on both versions; a refusal leaves the answer's place.
-fn check(key: &[u8], set: &[u8], message: &[u8], tag: &[u8]) -> Result<bool, u32> {
-    let mut valid = FILL;
-    let number = bowlinette::check(key, set, message, tag, &mut valid);
-    let want = archive::check(key, set, message, tag);
-    let given = (key.len(), set.len(), message.len(), tag.len());
-    assert_eq!(number, want.err().unwrap_or(0), "{given:?}");
-    assert_eq!(valid, want.map_or(FILL, u8::from), "{given:?}");
-    want
-}
 
 /// What pad, driver and archive have: the key, its book, the message set and set r.
 struct Product {
@@ -123,16 +85,10 @@ impl Product {
 /// What is no session before it has begun.
 const DIRTY: bowlinette::Session = bowlinette::Session::of([7; 16], 7, 7);
 
-/// A number below a bound, by chance.
-fn below(random: &mut Random, bound: usize) -> usize {
-    let four = random.bytes(4).try_into().unwrap();
-    u32::from_le_bytes(four) as usize % bound
-}
-
 /// The lengths of messages to take whole ways: named ones, and some by chance.
 fn lengths(random: &mut Random) -> Vec<usize> {
     let mut lengths = vec![0, 1, 15, 16, 17, 31, 32, 33, 9_412];
-    lengths.extend((0..30).map(|_| below(random, 3_000)));
+    lengths.extend((0..30).map(|_| random.below(3_000)));
     lengths
 }
 
@@ -162,7 +118,7 @@ fn others(message: &[u8], random: &mut Random) -> Vec<Vec<u8>> {
         others.push(front.to_vec());
         others.push(message[1..].to_vec());
         let mut changed = message.to_vec();
-        changed[below(random, message.len())] ^= 1 << below(random, 8);
+        changed[random.below(message.len())] ^= 1 << random.below(8);
         others.push(changed);
     }
     others
@@ -273,7 +229,7 @@ fn other_keys_sets_and_ivs() {
         }
         for k in 0..16 {
             let mut other = iv.clone();
-            other[k] ^= 1 << below(&mut random, 8);
+            other[k] ^= 1 << random.below(8);
             let told = right.open(&other, &sealed, 0).unwrap();
             let differs = |i: usize| told[i] != message[i];
             assert!((0..100).all(|i| differs(i) == (i == k)), "{size:?}, {k}");
@@ -281,23 +237,10 @@ fn other_keys_sets_and_ivs() {
     }
 }
 
-/// A text of whole blocks sealed as the archive reads it, padding or not: CBC from the decoded IV,
-/// coded by set r.
-fn sealed_text(key: &[u8], set: &[u8], iv: &[u8], text: &[u8]) -> Vec<u8> {
-    let mut x = chain::decode(set, iv.try_into().unwrap());
-    let mut block = |plain: &[u8]| {
-        let folded: Vec<u8> = plain.iter().zip(x).map(|(a, b)| a ^ b).collect();
-        x = lea::encipher(key, &folded).unwrap();
-        chain::code(set, &x)
-    };
-    text.chunks_exact(16).flat_map(&mut block).collect()
-}
-
 /// A key, a set and an IV by chance.
 fn any(size: Size, random: &mut Random) -> (Vec<u8>, Vec<u8>, Vec<u8>) {
     let key = random.bytes(size.key_bytes());
-    let set = chains::valid(size, random)[..SET].to_vec();
-    (key, set, random.bytes(16))
+    (key, chains::set(random), random.bytes(16))
 }
 
 /// Texts that end in so many bytes: taken off, or 11.
@@ -329,7 +272,7 @@ fn every_padding() {
             ends(size, &mut random, &[v; 16], whole);
             for at in 0..15 {
                 let mut end = [v; 16];
-                end[at] ^= 1 << below(&mut random, 8);
+                end[at] ^= 1 << random.below(8);
                 let inside = whole.filter(|v| at < 16 - v);
                 ends(size, &mut random, &end, inside);
             }
@@ -478,8 +421,8 @@ fn any_bytes_opened() {
     for size in Size::ALL {
         for n in (0..=600).chain([16, 32].repeat(2_000)) {
             let (key, set, iv) = any(size, &mut random);
-            let room = match below(&mut random, 4) {
-                0 => below(&mut random, n + 2),
+            let room = match random.below(4) {
+                0 => random.below(n + 2),
                 more => n + 7 * more,
             };
             let told = open(&key, &set, &iv, &random.bytes(n), room);

@@ -1,18 +1,11 @@
 //! Whole books and single rounds of them, on both versions: every byte, each refusal, and what
 //! stays as it was.
 
-#[path = "shared/chains.rs"]
-mod chains;
-#[path = "shared/random.rs"]
-mod random;
-
-use random::Random;
-use reference::book::{self, ADD, FOLD, GROUP, ROUND, START};
+use reference::book::{ADD, FOLD, GROUP, ROUND, START};
 use reference::chain::{self, CODING, MIDDLES, SET, WORD};
 use reference::{lea, Size};
-
-/// A byte that a buffer holds before a call.
-const FILL: u8 = 0xa5;
+use shared::book::{build, build_round};
+use shared::{chains, Random, FILL};
 
 /// What a call is given beside its buffer.
 #[derive(Clone)]
@@ -33,34 +26,12 @@ impl Case {
 
     /// The whole book.
     fn book(&self, length: usize) -> (u32, Vec<u8>) {
-        self.both(length, bowlinette::build, book::build)
+        build(&self.key, &self.chain, length)
     }
 
     /// One round of it.
     fn round(&self, number: usize, length: usize) -> (u32, Vec<u8>) {
-        self.both(
-            length,
-            |key, chain, out| bowlinette::build_round(key, chain, number, out),
-            |key, chain, out| book::build_round(key, chain, number, out),
-        )
-    }
-
-    /// Calls both versions with filled buffers of a length. They must give the same number and
-    /// leave the same bytes, a refusal all of them as they were.
-    fn both(
-        &self,
-        length: usize,
-        proved: impl Fn(&[u8], &[u8], &mut [u8]) -> u32,
-        reference: impl Fn(&[u8], &[u8], &mut [u8]) -> Result<(), u32>,
-    ) -> (u32, Vec<u8>) {
-        let (mut a, mut b) = (vec![FILL; length], vec![FILL; length]);
-        let number = proved(&self.key, &self.chain, &mut a);
-        let want = reference(&self.key, &self.chain, &mut b);
-        assert_eq!(number, want.err().unwrap_or(0));
-        let apart = a.iter().zip(&b).position(|(x, y)| x != y);
-        assert_eq!(apart, None, "the first byte that differs, {:?}", self.size);
-        assert!(number == 0 || a.iter().all(|&x| x == FILL));
-        (number, a)
+        build_round(&self.key, &self.chain, number, length)
     }
 }
 

@@ -1,30 +1,10 @@
 //! The checks of lone sets and of chains, on both versions: valid ones of each size, and each
 //! refusal at first, middle and last places, alone and beside others.
 
-#[path = "shared/chains.rs"]
-mod chains;
-#[path = "shared/random.rs"]
-mod random;
-
-use random::Random;
 use reference::chain::{self, CODING, MIDDLES, ROUND, SET, WORD};
 use reference::Size;
-
-/// What both versions say of a chain; they must agree.
-fn told(key: usize, chain: &[u8]) -> u32 {
-    let proved = bowlinette::check_chain(key, chain);
-    let number = chain::check(key, chain).err().unwrap_or(0);
-    assert_eq!(proved, number, "key of {key}, chain of {}", chain.len());
-    proved
-}
-
-/// The same of a lone set.
-fn told_set(set: &[u8]) -> u32 {
-    let proved = bowlinette::check_set(set);
-    let number = chain::check_set(set).err().unwrap_or(0);
-    assert_eq!(proved, number, "set of {}", set.len());
-    proved
-}
+use shared::book::{check_chain as told, check_set as told_set};
+use shared::{chains, Random};
 
 /// Runs a check on a valid chain of each size.
 fn on_chains(seed: u64, check: impl Fn(Size, Vec<u8>)) {

@@ -1,14 +1,9 @@
 //! The proved library against the reference on random keys and blocks, and on keys and blocks with
 //! a single bit set or clear.
 
-#[path = "shared/random.rs"]
-mod random;
-#[path = "shared/version.rs"]
-mod version;
-
-use random::Random;
 use reference::{lea, Size};
-use version::{PROVED, REFERENCE};
+use shared::version::{PROVED, REFERENCE};
+use shared::Random;
 
 /// Enciphering and deciphering of one block, on both sides, and back again.
 fn both_ways(key: &[u8], block: &[u8]) {

@@ -1,71 +1,13 @@
 //! Rounds and sealing from books on both versions: books of random keys and chains, and random bytes
 //! of a book's length. What is written, each refusal, and what stays as it was.
 
-#[path = "shared/books.rs"]
-mod books;
-#[path = "shared/chains.rs"]
-mod chains;
-#[path = "shared/random.rs"]
-mod random;
-
-use random::Random;
 use reference::book::{ADD, GROUP, ROUND, START};
 use reference::chain::{self, MIDDLES};
-use reference::driver::{self, LONGEST};
+use reference::driver::LONGEST;
 use reference::lea::{self, Block};
 use reference::Size;
-
-/// What buffers and lengths hold before a call.
-const FILL: u8 = 0xa5;
-const LENGTH: u64 = 0x5a5a_5a5a_5a5a_5a5a;
-
-/// What a call writes to the middle third of a filled buffer; nothing else may change, and nothing
-/// at all where the call refuses.
-fn written(call: impl FnOnce(&mut Block) -> u32) -> Result<Block, u32> {
-    let mut buffer = [FILL; 48];
-    let number = call((&mut buffer[16..32]).try_into().unwrap());
-    let out: Block = buffer[16..32].try_into().unwrap();
-    buffer[16..32].fill(FILL);
-    assert_eq!(buffer, [FILL; 48], "around what is written");
-    if number == 0 {
-        return Ok(out);
-    }
-    assert_eq!(out, [FILL; 16], "written after {number}");
-    Err(number)
-}
-
-/// A block through the first rounds of a book, the same on both versions.
-fn rounds(book: &[u8], count: usize, block: &[u8]) -> Result<Block, u32> {
-    let told = written(|out| bowlinette::run_rounds(book, count, block, out));
-    let want = driver::run_rounds(book, count, block);
-    assert_eq!(told, want, "{count} rounds, {} bytes", book.len());
-    told
-}
-
-/// A block through the tables of a round, the same on both versions.
-fn round(tables: &[u8], block: &[u8]) -> Result<Block, u32> {
-    let told = written(|out| bowlinette::run_round(tables, block, out));
-    let want = driver::run_round(tables, block);
-    assert_eq!(told, want, "{} bytes", tables.len());
-    told
-}
-
-/// A coded message sealed into a filled buffer of a length: the number, and the buffer. Both
-/// versions must do the same, which after a refusal is nothing.
-fn seal(book: &[u8], iv: &[u8], coded: &[u8], room: usize) -> (u32, Vec<u8>) {
-    let (mut out, mut other) = (vec![FILL; room], vec![FILL; room]);
-    let mut length = LENGTH;
-    let number = bowlinette::seal(book, iv, coded, &mut out, &mut length);
-    let want = driver::seal(book, iv, coded, &mut other);
-    let given = (book.len(), iv.len(), coded.len(), room);
-    assert_eq!(number, want.err().unwrap_or(0), "{given:?}");
-    assert_eq!(length, want.map_or(LENGTH, |n| n as u64), "{given:?}");
-    assert!(out == other, "{given:?}: the bytes differ");
-    if number != 0 {
-        assert!(out.iter().all(|&x| x == FILL), "{given:?}: written");
-    }
-    (number, out)
-}
+use shared::driver::{round, rounds, seal};
+use shared::{books, Random, FILL};
 
 /// The tables of round l of a book.
 fn tables(book: &[u8], l: usize) -> &[u8] {

@@ -1,12 +1,9 @@
 //! Every line of the lists of document 001 (its appendix I), run on the proved library and on the
 //! reference. The file has a line for each state X and each row RK: key bytes, name, words.
 
-#[path = "shared/version.rs"]
-mod version;
-
 use reference::lea::{self, Block, Row, State};
 use reference::Size;
-use version::{Version, PROVED, REFERENCE};
+use shared::version::{Version, PROVED, REFERENCE};
 
 const FILE: &str = include_str!("../../data/lea-lists.txt");
 const LINES: usize = 171;

@@ -1,101 +1,15 @@
 //! The pad's two codings on both versions: every byte of the buffer, length and kind, each refusal,
 //! and what stays as it was.
 
-#[path = "shared/random.rs"]
-mod random;
-
-use random::Random;
 use reference::chain::{self, CODING, SET};
-use reference::pad::{self, BLOCK, LONGEST};
+use reference::pad::{BLOCK, LONGEST};
+use shared::chains::set;
+use shared::pad::{code, due, Use, USES};
+use shared::{Random, FILL};
 
-/// What a buffer, a length and a kind hold before a call.
-const FILL: u8 = 0xa5;
-const LENGTH: u64 = 0x5a5a_5a5a_5a5a_5a5a;
-const KIND: u8 = 0x77;
-
-/// The two codings.
-#[derive(Clone, Copy, Debug, PartialEq)]
-enum Use {
-    Sealing,
-    Tag,
-}
-
-const BOTH: [Use; 2] = [Use::Sealing, Use::Tag];
-
-/// What a call leaves: its number, the buffer, the length, the kind.
-#[derive(Debug, PartialEq)]
-struct Left {
-    number: u32,
-    out: Vec<u8>,
-    length: u64,
-    kind: u8,
-}
-
-impl Left {
-    fn nothing(room: usize) -> Left {
-        Left {
-            number: 0,
-            out: vec![FILL; room],
-            length: LENGTH,
-            kind: KIND,
-        }
-    }
-
-    fn proved(uses: Use, u: &[u8], message: &[u8], room: usize) -> Left {
-        let mut left = Left::nothing(room);
-        let (out, length) = (&mut left.out, &mut left.length);
-        left.number = match uses {
-            Use::Sealing => bowlinette::code_for_sealing(u, message, out, length),
-            Use::Tag => bowlinette::code_for_tag(u, message, out, length, &mut left.kind),
-        };
-        left
-    }
-
-    fn reference(uses: Use, u: &[u8], message: &[u8], room: usize) -> Left {
-        let mut left = Left::nothing(room);
-        let told = match uses {
-            Use::Sealing => pad::code_for_sealing(u, message, &mut left.out).map(|n| (n, KIND)),
-            Use::Tag => pad::code_for_tag(u, message, &mut left.out),
-        };
-        match told {
-            Ok((length, kind)) => (left.length, left.kind) = (length as u64, kind),
-            Err(number) => left.number = number,
-        }
-        left
-    }
-}
-
-/// Calls both versions, which must leave the same; a refusal everything as it was.
-fn both(uses: Use, u: &[u8], message: &[u8], room: usize) -> Left {
-    let left = Left::proved(uses, u, message, room);
-    let want = Left::reference(uses, u, message, room);
-    let given = (uses, message.len(), room);
-    assert!(left == want, "{given:?}: number {}", left.number);
-    if left.number != 0 {
-        let number = left.number;
-        let untouched = Left {
-            number,
-            ..Left::nothing(room)
-        };
-        assert!(left == untouched, "{given:?}: written after {number}");
-    }
-    left
-}
-
-/// A set by chance: that of a chain's message set.
-fn set(random: &mut Random) -> Vec<u8> {
-    let below = |bound| usize::from(random.bytes(1)[0]) % bound;
-    let mut chain = chain::random(reference::Size::ALL[0], below);
-    chain.truncate(SET);
-    chain
-}
-
-/// How many bytes the coding of a message of n bytes has.
-fn due(uses: Use, n: usize) -> usize {
-    match uses {
-        Use::Sealing => n / BLOCK * BLOCK + BLOCK,
-        Use::Tag => n.max(1).div_ceil(BLOCK) * BLOCK,
-    }
+/// The number of a call.
+fn number(uses: Use, u: &[u8], message: &[u8], room: usize) -> u32 {
+    code(uses, u, message, room).0.err().unwrap_or(0)
 }
 
 /// The coding decoded by its set.
@@ -108,13 +22,11 @@ fn decoded(u: &[u8], code: &[u8]) -> Vec<u8> {
 /// A message, coded: length and kind, and, decoded, first the message and then what 01 says is added.
 fn accepted(uses: Use, u: &[u8], message: &[u8], room: usize) {
     let (n, total) = (message.len(), due(uses, message.len()));
-    let left = both(uses, u, message, room);
-    assert_eq!((left.number, left.length), (0, total as u64), "{n} bytes");
-    assert!(
-        left.out[total..].iter().all(|&x| x == FILL),
-        "past the code"
-    );
-    let text = decoded(u, &left.out[..total]);
+    let (told, out) = code(uses, u, message, room);
+    let (length, kind) = told.unwrap();
+    assert_eq!(length, total, "{n} bytes");
+    assert!(out[total..].iter().all(|&x| x == FILL), "past the code");
+    let text = decoded(u, &out[..total]);
     assert!(text[..n] == *message, "{n} bytes, decoded");
     let added = &text[n..];
     match uses {
@@ -123,9 +35,9 @@ fn accepted(uses: Use, u: &[u8], message: &[u8], room: usize) {
             assert!(added.iter().all(|&x| usize::from(x) == added.len()));
         }
         Use::Tag => {
-            assert_eq!(left.kind, u8::from(!added.is_empty()), "kind, {n} bytes");
+            assert_eq!(kind, Some(u8::from(!added.is_empty())), "kind, {n} bytes");
             assert!(added.iter().skip(1).all(|&x| x == 0));
-            assert!(added.first().is_none_or(|&x| x == 0x80));
+            assert!(added.first().map_or(true, |&x| x == 0x80));
         }
     }
 }
@@ -137,7 +49,7 @@ fn messages_of_every_length() {
         let u = set(&mut random);
         for n in (0..=100).chain([255, 256, 257, 9_412]) {
             let message = random.bytes(n);
-            for uses in BOTH {
+            for uses in USES {
                 accepted(
                     uses,
                     &u,
@@ -154,12 +66,12 @@ fn the_longest_messages() {
     let mut random = Random(61);
     let u = set(&mut random);
     let message = random.bytes(LONGEST + 1);
-    for uses in BOTH {
+    for uses in USES {
         for n in [LONGEST - 15, LONGEST - 14, LONGEST - 1, LONGEST] {
             accepted(uses, &u, &message[..n], due(uses, n));
         }
         for room in [0, LONGEST + 1, LONGEST + 17] {
-            assert_eq!(both(uses, &u, &message, room).number, 8, "{room} bytes");
+            assert_eq!(number(uses, &u, &message, room), 8, "{room} bytes");
         }
     }
 }
@@ -170,11 +82,11 @@ fn buffers_of_other_lengths() {
     let u = set(&mut random);
     for n in (0..=50).chain([LONGEST]) {
         let message = random.bytes(n);
-        for uses in BOTH {
+        for uses in USES {
             let total = due(uses, n);
             for room in [0, total - BLOCK, total - 2, total - 1] {
-                let number = both(uses, &u, &message, room).number;
-                assert_eq!(number, 9, "{uses:?}, {n} bytes into {room}");
+                let told = number(uses, &u, &message, room);
+                assert_eq!(told, 9, "{uses:?}, {n} bytes into {room}");
             }
             for more in [0, 1, BLOCK, 1000] {
                 accepted(uses, &u, &message, total + more);
@@ -189,11 +101,11 @@ fn sets_that_are_none() {
     let mut random = Random(63);
     let u = set(&mut random);
     let long = vec![0; LONGEST + 1];
-    let each = |u: &[u8], number: u32, what: &str| {
-        for uses in BOTH {
+    let each = |u: &[u8], wrong: u32, what: &str| {
+        for uses in USES {
             for (message, room) in [(&b"ink"[..], 16), (b"ink", 0), (&long, 0)] {
-                let told = both(uses, u, message, room).number;
-                assert_eq!(told, number, "{uses:?}, {what}");
+                let told = number(uses, u, message, room);
+                assert_eq!(told, wrong, "{uses:?}, {what}");
             }
         }
     };
@@ -220,9 +132,9 @@ fn sets_that_are_none() {
 fn long_before_short() {
     let u = set(&mut Random(64));
     let long = vec![0; LONGEST + 1];
-    for uses in BOTH {
-        assert_eq!(both(uses, &u, &long, 0).number, 8);
-        assert_eq!(both(uses, &u, &long[1..], 0).number, 9);
+    for uses in USES {
+        assert_eq!(number(uses, &u, &long, 0), 8);
+        assert_eq!(number(uses, &u, &long[1..], 0), 9);
     }
 }
 
@@ -231,17 +143,18 @@ fn long_before_short() {
 fn table_examples() {
     let u: Vec<u8> = (0..SET).map(|i| (i % CODING) as u8).collect();
     let told = |uses, message: &[u8]| {
-        let left = both(uses, &u, message, 64);
-        let text = left.out[..left.length as usize].to_vec();
-        (text, left.kind)
+        let (told, mut out) = code(uses, &u, message, 64);
+        let (length, kind) = told.unwrap();
+        out.truncate(length);
+        (out, kind)
     };
     let mut ended = vec![0; 16];
     ended[0] = 0x80;
     assert_eq!(told(Use::Sealing, b"").0, [0x10; 16]);
-    assert_eq!(told(Use::Tag, b""), (ended, 1));
+    assert_eq!(told(Use::Tag, b""), (ended, Some(1)));
     assert_eq!(told(Use::Sealing, &[7; 16]).0.len(), 32);
-    assert_eq!(told(Use::Tag, &[7; 16]), (vec![7; 16], 0));
+    assert_eq!(told(Use::Tag, &[7; 16]), (vec![7; 16], Some(0)));
     assert_eq!(told(Use::Sealing, &[7; 15]).0.len(), 16);
     let (text, kind) = told(Use::Tag, &[7; 15]);
-    assert_eq!((text.len(), text[15], kind), (16, 0x80, 1));
+    assert_eq!((text.len(), text[15], kind), (16, 0x80, Some(1)));
 }

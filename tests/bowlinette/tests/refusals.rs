@@ -1,14 +1,10 @@
 //! Keys and blocks of every length near the right ones, and of lengths that only differ from them
 //! above the low bits: which number comes back, and which bytes change.
 
-#[path = "shared/random.rs"]
-mod random;
-#[path = "shared/version.rs"]
-mod version;
-
-use random::Random;
+use shared::lent::written;
+use shared::version::{Version, PROVED, REFERENCE};
+use shared::Random;
 use std::fmt::Debug;
-use version::{Version, PROVED, REFERENCE};
 
 /// 0 to 40, and the right lengths with 256 or 65,536 added.
 fn lengths() -> impl Iterator<Item = usize> + Clone {
@@ -26,24 +22,15 @@ fn due(key: usize, block: usize) -> u32 {
     }
 }
 
-/// Calls with the middle third of a filled buffer. The call must return this number, and change
-/// the middle if that is 0, and nothing else.
+/// The call must return this number, and write if that is 0.
 fn guarded<T: Copy + PartialEq + Debug, const N: usize>(
     fill: T,
     number: u32,
     call: impl Fn(&mut [T; N]) -> u32,
 ) {
-    let mut buffer = vec![fill; 3 * N];
-    let middle = (&mut buffer[N..2 * N]).try_into().unwrap();
-    assert_eq!(call(middle), number);
-    assert_eq!(buffer[..N], [fill; N], "before what is written");
-    assert_eq!(buffer[2 * N..], [fill; N], "after what is written");
-    let untouched = buffer[N..2 * N] == [fill; N];
-    assert_eq!(
-        untouched,
-        number != 0,
-        "the bytes to write, number {number}"
-    );
+    let told = written(fill, call);
+    assert_eq!(told.err().unwrap_or(0), number);
+    assert_ne!(told, Ok([fill; N]), "nothing is written");
 }
 
 /// Runs a check for each pair of lengths on a key and a block, which must stay as they are.

@@ -1,14 +1,9 @@
 //! The proved round program, run on input of every kind beside the reference: what it prints, and
 //! how much of its input it reads.
 
-#[path = "shared/chains.rs"]
-mod chains;
-#[path = "shared/random.rs"]
-mod random;
-
-use random::Random;
 use reference::chain::{self, CODING, MIDDLES, SET, WORD};
 use reference::{round, Size};
+use shared::{chains, Random};
 use std::fs::{self, File};
 use std::io::{Read, Seek, SeekFrom, Write};
 use std::path::{Path, PathBuf};

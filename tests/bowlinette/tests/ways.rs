@@ -2,136 +2,11 @@
 //! is sealed comes back, and every byte of the buffers is what the reference leaves call by call,
 //! after each refusal too.
 
-#[path = "shared/chains.rs"]
-mod chains;
-#[path = "shared/random.rs"]
-mod random;
-
-use random::Random;
 use reference::chain::{CODING, MIDDLES, SET};
-use reference::pad::{BLOCK, LONGEST};
-use reference::{book, driver, pad, refusal, Size};
-
-/// What buffers, lengths and verdicts hold before a call.
-const FILL: u8 = 0xa5;
-const LENGTH: u64 = 0x5a5a_5a5a_5a5a_5a5a;
-
-/// What a way is given, and the lengths of its buffers: book, code, sealed file, message.
-#[derive(Clone)]
-struct Given<'a> {
-    key: Vec<u8>,
-    chain: Vec<u8>,
-    iv: Vec<u8>,
-    message: &'a [u8],
-    rooms: [usize; 4],
-}
-
-/// What a way leaves: its number, what it told, and its buffers.
-#[derive(PartialEq)]
-struct Left<T, const N: usize> {
-    number: u32,
-    told: T,
-    buffers: [Vec<u8>; N],
-}
-
-impl<'a> Given<'a> {
-    /// Key, chain and IV by chance, and buffers with so many bytes more than both ways need.
-    fn new(size: Size, message: &'a [u8], more: usize, random: &mut Random) -> Given<'a> {
-        let code = message.len() / BLOCK * BLOCK + BLOCK;
-        Given {
-            key: random.bytes(size.key_bytes()),
-            chain: chains::valid(size, random),
-            iv: random.bytes(BLOCK),
-            message,
-            rooms: [size.book_bytes(), code, code, code].map(|n| n + more),
-        }
-    }
-
-    fn buffers<const N: usize>(&self) -> [Vec<u8>; N] {
-        std::array::from_fn(|k| vec![FILL; self.rooms[k]])
-    }
-
-    /// The way of a tag: the number. All that is left must be as due.
-    fn tagged(&self) -> u32 {
-        let (mut buffers, mut told) = (self.buffers(), FILL);
-        let number = bowlinette::tag_way(
-            &self.key,
-            &self.chain,
-            self.message,
-            &mut buffers,
-            &mut told,
-        );
-        let left = Left {
-            number,
-            told,
-            buffers,
-        };
-        assert!(left == self.tag_due(), "{}: {number}", self.lengths());
-        number
-    }
-
-    /// The way of a sealed file, as that of a tag.
-    fn sealed(&self) -> u32 {
-        let (mut buffers, mut told) = (self.buffers(), LENGTH);
-        let (key, chain, iv) = (&self.key, &self.chain, &self.iv);
-        let number = bowlinette::seal_way(key, chain, iv, self.message, &mut buffers, &mut told);
-        let left = Left {
-            number,
-            told,
-            buffers,
-        };
-        assert!(left == self.seal_due(), "{}: {number}", self.lengths());
-        number
-    }
-
-    /// What the way of a tag must leave: the book, the code, and Valid.
-    fn tag_due(&self) -> Left<u8, 2> {
-        let mut buffers = self.buffers();
-        let [book, coded] = &mut buffers;
-        let written = || -> Result<(), u32> {
-            book::build(&self.key, &self.chain, book)?;
-            pad::code_for_tag(&self.chain[..SET], self.message, coded)?;
-            Ok(())
-        }();
-        Left {
-            number: written.err().unwrap_or(0),
-            told: written.map_or(FILL, |()| 1),
-            buffers,
-        }
-    }
-
-    /// What the way of a sealed file must leave: the book, the code, the sealed file, the message.
-    fn seal_due(&self) -> Left<u64, 4> {
-        let mut buffers = self.buffers();
-        let [book, coded, sealed, out] = &mut buffers;
-        let written = || -> Result<(), u32> {
-            book::build(&self.key, &self.chain, book)?;
-            let n = pad::code_for_sealing(&self.chain[..SET], self.message, coded)?;
-            let length = Size::of_key(self.key.len()).unwrap().book_bytes();
-            driver::seal(&book[..length], &self.iv, &coded[..n], sealed)?;
-            let room = out.get_mut(..n).ok_or(refusal::SHORT_OUTPUT)?;
-            room[..self.message.len()].copy_from_slice(self.message);
-            Ok(())
-        }();
-        Left {
-            number: written.err().unwrap_or(0),
-            told: written.map_or(LENGTH, |()| self.message.len() as u64),
-            buffers,
-        }
-    }
-
-    fn lengths(&self) -> String {
-        let (key, chain, iv) = (self.key.len(), self.chain.len(), self.iv.len());
-        let (message, rooms) = (self.message.len(), self.rooms);
-        format!("key {key}, chain {chain}, IV {iv}, message {message}, buffers {rooms:?}")
-    }
-}
-
-/// A number below a bound, by chance.
-fn below(random: &mut Random, bound: usize) -> usize {
-    let two = random.bytes(2).try_into().unwrap();
-    usize::from(u16::from_le_bytes(two)) % bound
-}
+use reference::pad::LONGEST;
+use reference::Size;
+use shared::ways::Given;
+use shared::Random;
 
 /// The named lengths, and some by chance.
 #[test]
@@ -140,9 +15,9 @@ fn messages_that_are_not_refused() {
     let bytes = random.bytes(LONGEST);
     for size in Size::ALL {
         let mut lengths = vec![0, 1, 15, 16, 17, 9_412, LONGEST];
-        lengths.extend((0..30).map(|_| below(&mut random, 3_000)));
+        lengths.extend((0..30).map(|_| random.below(3_000)));
         for n in lengths {
-            let more = [0, 1, 16, 100][below(&mut random, 4)];
+            let more = random.one_of(&[0, 1, 16, 100]);
             let given = Given::new(size, &bytes[LONGEST - n..], more, &mut random);
             assert_eq!(given.tagged(), 0, "{}", given.lengths());
             assert_eq!(given.sealed(), 0, "{}", given.lengths());

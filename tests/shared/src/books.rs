@@ -1,7 +1,7 @@
 //! Books by chance.
 
 use crate::chains;
-use crate::random::Random;
+use crate::Random;
 use reference::{book, Size};
 
 /// A key, a chain and their book.

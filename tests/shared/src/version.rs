@@ -1,5 +1,6 @@
-//! The proved library and the reference under one set of names, so that a test runs on both.
+//! The cipher of the proved library and of the reference under one set of names.
 
+use crate::lent::{written, FILL};
 use reference::lea::{self, Block, Row};
 
 /// What a call gives, or the number of its refusal.
@@ -15,10 +16,10 @@ pub struct Version {
 
 pub const PROVED: Version = Version {
     name: "proved library",
-    encipher: |key, block| told([0; 16], |out| bowlinette::encipher(key, block, out)),
-    decipher: |key, block| told([0; 16], |out| bowlinette::decipher(key, block, out)),
-    first_rounds: |key, n, block| told([0; 16], |out| bowlinette::first_rounds(key, n, block, out)),
-    round_keys: |key, n| told([0; 6], |row| bowlinette::round_keys(key, n, row)),
+    encipher: |key, block| written(FILL, |out| bowlinette::encipher(key, block, out)),
+    decipher: |key, block| written(FILL, |out| bowlinette::decipher(key, block, out)),
+    first_rounds: |key, n, block| written(FILL, |out| bowlinette::first_rounds(key, n, block, out)),
+    round_keys: |key, n| written(FILL.into(), |row| bowlinette::round_keys(key, n, row)),
 };
 
 pub const REFERENCE: Version = Version {
@@ -28,11 +29,3 @@ pub const REFERENCE: Version = Version {
     first_rounds: lea::first_rounds,
     round_keys: lea::round_keys,
 };
-
-/// What a call wrote, if it returned 0.
-fn told<T>(mut out: T, call: impl Fn(&mut T) -> u32) -> Answer<T> {
-    match call(&mut out) {
-        0 => Ok(out),
-        number => Err(number),
-    }
-}

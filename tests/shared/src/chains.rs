@@ -1,0 +1,16 @@
+//! Valid chains and sets by chance.
+
+use crate::Random;
+use reference::chain::{self, SET};
+use reference::Size;
+
+pub fn valid(size: Size, random: &mut Random) -> Vec<u8> {
+    chain::random(size, |bound| random.below(bound))
+}
+
+/// A set: the message set of a chain.
+pub fn set(random: &mut Random) -> Vec<u8> {
+    let mut chain = valid(Size::Lea128, random);
+    chain.truncate(SET);
+    chain
+}

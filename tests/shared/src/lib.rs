@@ -1,0 +1,19 @@
+//! What the tests and the soak share: keys, chains, books and messages by chance, and each operation
+//! called on the proved library and on the reference at once. Both must give the same number and leave
+//! the same bytes, and a refusal must leave everything as it was.
+
+pub mod archive;
+pub mod book;
+pub mod books;
+pub mod chains;
+pub mod cmac;
+pub mod driver;
+pub mod lent;
+pub mod pad;
+pub mod random;
+pub mod session;
+pub mod version;
+pub mod ways;
+
+pub use lent::{FILL, LENGTH};
+pub use random::Random;
