@@ -1,3 +1,4 @@
+-- `bowlinette_code_for_sealing` meets its contract. Assumes nothing.
 use borrow.Author.Needs.{needs}
 use Rattle.exports.proofs.IntoLaws.{kept-told}
 use Rattle.exports.proofs.bowlinette_code_for_sealing.Statement.{statement}

@@ -1,3 +1,4 @@
+-- `bowlinette_code_for_tag` meets its contract. Assumes nothing.
 use mathlib.Core.Path.{ap}
 use borrow.Author.Needs.{needs}
 use Rattle.pad.specs.Answers.{tagTold}

@@ -1,3 +1,4 @@
+-- `bowlinette_round_keys` meets its contract. Assumes nothing.
 use borrow.Author.Needs.{needs}
 use Rattle.exports.proofs.IntoLaws.{taken, refused}
 use Rattle.exports.proofs.bowlinette_round_keys.Statement.{statement}

@@ -1,3 +1,4 @@
+-- `deliver` meets its contract. Assumes nothing.
 use mathlib.Core.Path.{refl}
 use borrow.Author.Needs.{needs}
 use Rattle.exports.proofs.IntoLaws.{taken, refused}

@@ -1,3 +1,4 @@
+-- `chain::check_chain` meets its contract. Assumes nothing.
 use mathlib.Core.Path.{sym, _∙_}
 use borrow.Author.Needs.{needs}
 use Rattle.cipher.specs.Chain.{chainTests}

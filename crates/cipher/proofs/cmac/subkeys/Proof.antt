@@ -1,3 +1,4 @@
+-- `cmac::subkeys` meets its contract. Assumes nothing.
 use mathlib.Core.Path.{sym, ap, _∙_}
 use borrow.Author.Needs.{needs}
 use Rattle.cipher.specs.KeySize.{rounds}

@@ -1,3 +1,4 @@
+-- `round::keyed` meets its contract. Assumes nothing.
 use borrow.Author.Needs.{needs}
 use Rattle.cipher.specs.Word.{add, xor}
 use Rattle.cipher.specs.Lea.{keyed}

@@ -1,3 +1,4 @@
+-- `word::rotate_left` meets its contract. Assumes nothing.
 use native.Mathlib.Omega.{arith}
 use borrow.Author.Needs.{needs}
 use Rattle.cipher.proofs.WordLaws.{rotate-left-is}

@@ -1,3 +1,4 @@
+-- `word::word` meets its contract. Assumes nothing.
 use borrow.Author.Needs.{needs}
 use Rattle.cipher.specs.Word as W
 use Rattle.cipher.proofs.word.word.Statement.{statement}

@@ -1,3 +1,4 @@
+-- `word::word_at` meets its contract. Assumes nothing.
 use borrow.Author.Needs.{needs}
 use Rattle.cipher.specs.Word.{wordAt}
 use Rattle.cipher.proofs.word.word_at.Statement.{statement}

@@ -1,3 +1,4 @@
+-- `size::KeySize::book_len` meets its contract. Assumes nothing.
 use native.Mathlib.Omega.{arith}
 use borrow.Author.Needs.{needs}
 use Rattle.cipher.proofs.KeySizeLaws.{rounds-le}

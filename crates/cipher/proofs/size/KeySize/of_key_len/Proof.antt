@@ -1,3 +1,4 @@
+-- `size::KeySize::of_key_len` meets its contract. Assumes nothing.
 use mathlib.Core.Path.{sym, _∙_}
 use native.Mathlib.Omega.{arith}
 use borrow.Author.Needs.{needs}
