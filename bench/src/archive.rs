@@ -1,11 +1,13 @@
 //! Opening a sealed message and checking a tag, from the key and a set.
 
-use crate::{any_chain, any_text, heading, measure};
-use reference::{archive, chain, lea, Size};
+use crate::timing::Times;
+use reference::{archive, lea, Size};
+use shared::archive::sealed_text;
+use shared::{chains, Random};
 use std::hint::black_box as hide;
 
-/// What the archive has, and a message of n bytes as it comes in.
-struct Given {
+/// What the archive has, and a message as it comes in.
+pub struct Given {
     key: Vec<u8>,
     set: Vec<u8>,
     message: Vec<u8>,
@@ -14,86 +16,59 @@ struct Given {
 }
 
 impl Given {
-    /// The message padded, enciphered in CBC from the IV and coded by the set.
-    fn new(size: Size, n: usize) -> Given {
-        let key: Vec<u8> = (0..size.key_bytes() as u8).map(|i| 7 * i).collect();
-        let set = any_chain(size)[..chain::SET].to_vec();
-        let (message, iv) = (any_text(n), [5; 16]);
-        let added = 16 - n % 16;
+    /// A message of n bytes.
+    pub fn new(size: Size, n: usize) -> Given {
+        let mut random = Random(1);
+        let (key, set) = (random.bytes(size.key_bytes()), chains::set(&mut random));
+        let (message, iv, added) = (random.bytes(n), random.block(), 16 - n % 16);
         let text = [message.as_slice(), &vec![added as u8; added]].concat();
-        let mut x = chain::decode(&set, &iv);
-        let mut seal = |plain: &[u8]| {
-            let folded: lea::Block = std::array::from_fn(|k| x[k] ^ plain[k]);
-            x = lea::encipher(&key, &folded).unwrap();
-            chain::code(&set, &x)
-        };
-        let sealed = text.chunks_exact(16).flat_map(&mut seal).collect();
         Given {
+            sealed: sealed_text(&key, &set, &iv, &text),
             key,
             set,
             message,
-            sealed,
             iv,
         }
     }
 }
 
-fn open(g: &Given) {
+/// Opened into a buffer: the length of the message.
+fn rattle_open(g: &Given, out: &mut [u8]) -> u64 {
+    let (key, sealed, mut length) = (hide(&g.key), hide(&g.sealed), 0);
+    hide(bowlinette::open(
+        key,
+        &g.set,
+        &g.iv,
+        sealed,
+        out,
+        &mut length,
+    ));
+    length
+}
+
+/// Whether a tag that is not the message's is Valid.
+fn rattle_check(g: &Given) -> u8 {
+    let (key, message, mut valid) = (hide(&g.key), hide(&g.message), 2);
+    hide(bowlinette::check(key, &g.set, message, &g.iv, &mut valid));
+    valid
+}
+
+pub fn open(g: &Given) -> Times {
     let room = g.sealed.len();
     let (mut out, mut other, mut length) = (vec![0; room], vec![0; room], 0);
-    measure(
-        "open",
-        g.message.len(),
-        || {
-            _ = hide(bowlinette::open(
-                hide(&g.key),
-                &g.set,
-                &g.iv,
-                hide(&g.sealed),
-                &mut out,
-                &mut length,
-            ))
-        },
-        || {
-            _ = hide(archive::open(
-                hide(&g.key),
-                &g.set,
-                &g.iv,
-                hide(&g.sealed),
-                &mut other,
-            ))
-        },
+    let rust = |out: &mut [u8]| archive::open(hide(&g.key), &g.set, &g.iv, hide(&g.sealed), out);
+    let times = Times::of(
+        || length = rattle_open(g, &mut out),
+        || _ = hide(rust(&mut other)),
     );
     assert!(out == other && out[..length as usize] == g.message);
+    times
 }
 
-fn check(g: &Given) {
-    let (tag, mut valid, mut other) = ([5; 16], 2, true);
-    measure(
-        "check",
-        g.message.len(),
-        || {
-            _ = hide(bowlinette::check(
-                hide(&g.key),
-                &g.set,
-                hide(&g.message),
-                &tag,
-                &mut valid,
-            ))
-        },
-        || other = hide(archive::check(hide(&g.key), &g.set, hide(&g.message), &tag)).unwrap(),
-    );
+pub fn check(g: &Given) -> Times {
+    let (mut valid, mut other) = (2, true);
+    let rust = || archive::check(hide(&g.key), &g.set, hide(&g.message), &g.iv);
+    let times = Times::of(|| valid = rattle_check(g), || other = hide(rust()).unwrap());
     assert!(valid == 0 && !other);
-}
-
-pub fn all() {
-    for size in Size::ALL {
-        let head = format!("key {}", size.key_bytes());
-        heading(&head, ["Rattle", "Rust"]);
-        for n in [9_412, 1_048_575] {
-            let given = Given::new(size, n);
-            open(&given);
-            check(&given);
-        }
-    }
+    times
 }

@@ -1,13 +1,42 @@
-//! Rounds, sealing and tags from a book. Each block comes out of the one before, as in a message, so
-//! that the tables are read all over; all versions use one book.
+//! Rounds, sealing and tags from a book, beside Rust of two shapes: straight loops over half bytes
+//! (`reference::driver`, plain) and the proved driver's shape (`packed`, alike). Each block comes out of
+//! the one before, as in a message, so that the tables are read all over.
 
-use crate::{any_book, any_text, heading, measure, packed};
+use crate::packed;
+use crate::timing::Times;
 use bowlinette::Session;
 use reference::{driver, lea::Block, Size};
+use shared::lent::{answer, told};
+use shared::{books, Random};
 use std::hint::black_box as hide;
+
+/// The Rust version to compare with.
+#[derive(Clone, Copy)]
+pub enum Shape {
+    Plain,
+    Alike,
+}
 
 /// The IV, and the first block of those that go through the rounds.
 const IV: Block = [5; 16];
+
+/// A book by chance, and so many coded bytes.
+pub struct Given {
+    book: Vec<u8>,
+    coded: Vec<u8>,
+}
+
+impl Given {
+    /// What a message of n bytes is when coded: as long for sealing as for a tag where n is no multiple
+    /// of 16.
+    pub fn new(size: Size, n: usize) -> Given {
+        let mut random = Random(2);
+        Given {
+            book: books::built(size, &mut random).book,
+            coded: random.bytes(n / 16 * 16 + 16),
+        }
+    }
+}
 
 /// A block through all rounds of a book, into the block.
 fn rattle_rounds(book: &[u8], x: &mut Block) {
@@ -16,105 +45,103 @@ fn rattle_rounds(book: &[u8], x: &mut Block) {
 }
 
 /// Coded blocks sealed.
-fn rattle_seal(book: &[u8], coded: &[u8], out: &mut [u8]) {
+fn rattle_seal(given: &Given, out: &mut [u8]) {
+    let (book, coded) = (hide(&given.book), hide(&given.coded));
     let mut length = 0;
-    hide(bowlinette::seal(
-        hide(book),
-        &IV,
-        hide(coded),
-        out,
-        &mut length,
-    ));
+    hide(bowlinette::seal(book, &IV, coded, out, &mut length));
+}
+
+/// A tag by the three calls of a session: begun, a block call for each block but the last, a last call.
+fn tagged<S>(
+    given: &Given,
+    begin: impl Fn(&[u8]) -> Result<S, u32>,
+    block_call: impl Fn(&mut S, &[u8], &[u8]) -> Result<(), u32>,
+    last_call: impl Fn(&mut S, &[u8], &[u8], u8) -> Result<Block, u32>,
+) -> Result<Block, u32> {
+    let (book, coded) = (hide(given.book.as_slice()), hide(&given.coded));
+    let (front, last) = coded.split_at(coded.len() - 16);
+    let mut session = begin(book)?;
+    for block in front.chunks_exact(16) {
+        block_call(&mut session, book, block)?;
+    }
+    last_call(&mut session, book, last, 1)
+}
+
+fn rattle_tag(given: &Given) -> Result<Block, u32> {
+    let (empty, zeros) = (Session::of([0; 16], 0, 0), [0; 16]);
+    tagged(
+        given,
+        |book| told(empty, |session| session.begin(book)),
+        |session, book, block| answer(session.block_call(book, block)),
+        |session, book, last, kind| told(zeros, |tag| session.last_call(book, last, kind, tag)),
+    )
+}
+
+fn plain_tag(given: &Given) -> Result<Block, u32> {
+    use driver::Session as S;
+    tagged(given, S::begin, S::block_call, S::last_call)
+}
+
+fn alike_tag(given: &Given) -> Result<Block, u32> {
+    use packed::Session as S;
+    tagged(given, S::begin, S::block_call, S::last_call)
 }
 
 /// One block through all rounds.
-fn rounds(size: Size, rust: impl Fn(&[u8], usize, &[u8]) -> Result<Block, u32>) {
-    let book = any_book(size);
+pub fn rounds(size: Size, shape: Shape) -> Times {
+    let book = Given::new(size, 0).book;
+    let rust = match shape {
+        Shape::Plain => driver::run_rounds,
+        Shape::Alike => packed::run_rounds,
+    };
     let (mut x, mut y) = (IV, IV);
-    measure(
-        "rounds",
-        size.key_bytes(),
+    let times = Times::of(
         || rattle_rounds(&book, &mut x),
         || y = rust(hide(&book), usize::MAX, &y).unwrap(),
     );
     let block = x;
     rattle_rounds(&book, &mut x);
     assert_eq!(rust(&book, usize::MAX, &block), Ok(x));
+    times
 }
 
-/// Sealing n coded bytes beside as many blocks through the rounds.
-fn seal_beside_rounds(size: Size, n: usize) {
-    let (book, coded) = (any_book(size), any_text(n));
-    let (mut out, mut x) = (vec![0; n], IV);
-    measure(
-        "seal",
-        n,
-        || rattle_seal(&book, &coded, &mut out),
-        || (0..n / 16).for_each(|_| rattle_rounds(&book, &mut x)),
-    );
+/// Sealing beside as many blocks through the rounds.
+pub fn seal_beside_rounds(given: &Given) -> Times {
+    let (mut out, mut x) = (vec![0; given.coded.len()], IV);
+    let blocks = given.coded.len() / 16;
+    Times::of(
+        || rattle_seal(given, &mut out),
+        || (0..blocks).for_each(|_| rattle_rounds(&given.book, &mut x)),
+    )
 }
 
-/// Sealing n coded bytes.
-fn seal(size: Size, n: usize) {
-    let (book, coded) = (any_book(size), any_text(n));
+/// Sealing.
+pub fn seal(given: &Given, shape: Shape) -> Times {
+    let n = given.coded.len();
+    let rust = match shape {
+        Shape::Plain => driver::seal,
+        Shape::Alike => packed::seal,
+    };
     let (mut out, mut other) = (vec![0; n], vec![0; n]);
-    measure(
-        "seal",
-        n,
-        || rattle_seal(&book, &coded, &mut out),
-        || _ = hide(driver::seal(hide(&book), &IV, hide(&coded), &mut other)),
+    let times = Times::of(
+        || rattle_seal(given, &mut out),
+        || _ = hide(rust(hide(&given.book), &IV, hide(&given.coded), &mut other)),
     );
     assert!(out == other);
+    times
 }
 
-/// The tag of n coded bytes: begun, a block call for each block but the last, a last call.
-fn tag(size: Size, n: usize) {
-    let (book, coded) = (any_book(size), any_text(n));
-    let (front, last) = coded.split_at(n - 16);
-    let mut session = Session::of([0; 16], 0, 0);
+/// A tag by session calls.
+pub fn tag(given: &Given, shape: Shape) -> Times {
+    let rust = match shape {
+        Shape::Plain => plain_tag,
+        Shape::Alike => alike_tag,
+    };
     let (mut a, mut b) = ([0; 16], [0; 16]);
-    measure(
-        "tag",
-        n,
-        || {
-            let book = hide(book.as_slice());
-            session.begin(book);
-            for block in front.chunks_exact(16) {
-                session.block_call(book, block);
-            }
-            hide(session.last_call(book, last, 0, &mut a));
-        },
-        || {
-            let book = hide(book.as_slice());
-            let mut session = driver::Session::begin(book).unwrap();
-            for block in front.chunks_exact(16) {
-                session.block_call(book, block).unwrap();
-            }
-            b = hide(session.last_call(book, last, 0)).unwrap();
-        },
+    let times = Times::of(
+        || a = hide(rattle_tag(given)).unwrap(),
+        || b = hide(rust(given)).unwrap(),
     );
     assert_eq!(a, b);
-}
-
-/// What 9,412 bytes and the longest message are when coded for sealing.
-const CODED: [usize; 2] = [9_424, 1_048_576];
-
-pub fn all() {
-    heading("key bytes", ["Rattle", "plain Rust"]);
-    for size in Size::ALL {
-        rounds(size, driver::run_rounds);
-    }
-    heading("key bytes", ["Rattle", "Rust alike"]);
-    for size in Size::ALL {
-        rounds(size, packed::run_rounds);
-    }
-    heading("coded", ["sealing", "its rounds"]);
-    for n in CODED {
-        seal_beside_rounds(Size::Lea128, n);
-    }
-    heading("coded", ["Rattle", "plain Rust"]);
-    for n in CODED {
-        seal(Size::Lea128, n);
-        tag(Size::Lea128, n);
-    }
+    times
 }

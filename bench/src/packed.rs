@@ -1,11 +1,11 @@
-//! The rounds of a book in Rust in the shape of the proved driver: a block stays packed in 16 bytes,
-//! two half bytes are looked up at a time, the three words side by side, and each round writes into
-//! the block it is lent. As there, nothing is checked inside a round: each index is below 18,432
-//! whatever the bytes are.
+//! The driver in Rust in the shape of the proved one: a block stays packed in 16 bytes, two half bytes
+//! are looked up at a time, the three words side by side, and each round writes into the block it is
+//! lent. As there, nothing is checked inside a round: each index is below 18,432 whatever the bytes are.
 
-use reference::book::{ADD, GROUP, ROUND, START};
+use reference::book::{ADD, FOLD, GROUP, ROUND, START};
 use reference::chain::MIDDLES;
-use reference::lea::Block;
+use reference::driver::{LIMIT, LONGEST};
+use reference::lea::{whole, Block};
 use reference::{refusal, Size};
 
 /// The tables of one round.
@@ -94,16 +94,111 @@ fn step(t: &Tables, y: &mut Block) {
     turns(t, &s, y);
 }
 
+/// A block folded into another by a group of fold tables.
+#[inline]
+fn fold(group: &[u8; GROUP], x: &Block, y: &Block) -> Block {
+    std::array::from_fn(|k| {
+        let lo = group[2 * FOLD * k + (16 * low(x[k]) + low(y[k]))];
+        let hi = group[2 * FOLD * k + FOLD + (16 * high(x[k]) + high(y[k]))];
+        joined(lo, hi)
+    })
+}
+
+/// A book of one of the three lengths.
+#[derive(Clone, Copy)]
+struct Book<'a>(&'a [u8]);
+
+impl<'a> Book<'a> {
+    #[inline]
+    fn new(bytes: &'a [u8]) -> Result<Book<'a>, u32> {
+        match Size::ALL.iter().any(|s| s.book_bytes() == bytes.len()) {
+            true => Ok(Book(bytes)),
+            false => Err(refusal::BOOK_LENGTH),
+        }
+    }
+
+    /// The lent block through the first rounds, all of them where the count is more.
+    #[inline]
+    fn run(self, count: usize, y: &mut Block) {
+        let rounds = &self.0[START + 3 * GROUP..];
+        for tables in rounds.chunks_exact(ROUND).take(count) {
+            step(tables.try_into().unwrap(), y);
+        }
+    }
+
+    /// A coded block folded in by group number g, from 0, and taken through all rounds.
+    #[inline]
+    fn pass(self, g: usize, x: &Block, coded: &Block) -> Block {
+        let group = &self.0[START + GROUP * g..][..GROUP];
+        let mut y = fold(group.try_into().unwrap(), x, coded);
+        self.run(usize::MAX, &mut y);
+        y
+    }
+}
+
 /// A block through the first rounds of a book, all of them where the count is more.
 #[inline]
 pub fn run_rounds(book: &[u8], count: usize, block: &[u8]) -> Result<Block, u32> {
-    if !Size::ALL.iter().any(|s| s.book_bytes() == book.len()) {
-        return Err(refusal::BOOK_LENGTH);
-    }
-    let mut y: Block = block.try_into().map_err(|_| refusal::BLOCK_LENGTH)?;
-    for tables in book[START + 3 * GROUP..].chunks_exact(ROUND).take(count) {
-        let tables: &Tables = tables.try_into().unwrap();
-        step(tables, &mut y);
-    }
+    let (book, mut y) = (Book::new(book)?, *whole(block)?);
+    book.run(count, &mut y);
     Ok(y)
+}
+
+/// A coded message sealed from an IV, to the front of out: the length of what was written.
+pub fn seal(book: &[u8], iv: &[u8], coded: &[u8], out: &mut [u8]) -> Result<usize, u32> {
+    let (book, mut x, n) = (Book::new(book)?, *whole(iv)?, coded.len());
+    if n == 0 || n > LONGEST || n % 16 != 0 {
+        return Err(refusal::MESSAGE_LENGTH);
+    }
+    let room = out.get_mut(..n).ok_or(refusal::SHORT_OUTPUT)?;
+    for (text, place) in coded.chunks_exact(16).zip(room.chunks_exact_mut(16)) {
+        x = book.pass(0, &x, text.try_into().unwrap());
+        place.copy_from_slice(&x);
+    }
+    Ok(n)
+}
+
+/// A tag session.
+pub struct Session {
+    block: Block,
+    taken: u16,
+    finished: bool,
+}
+
+impl Session {
+    /// A fresh session.
+    pub fn begin(book: &[u8]) -> Result<Session, u32> {
+        Ok(Session {
+            block: *whole(&Book::new(book)?.0[..START])?,
+            taken: 0,
+            finished: false,
+        })
+    }
+
+    /// A block call.
+    pub fn block_call(&mut self, book: &[u8], coded: &[u8]) -> Result<(), u32> {
+        let (book, coded) = (Book::new(book)?, whole(coded)?);
+        if self.finished {
+            return Err(refusal::FINISHED);
+        }
+        if self.taken == LIMIT {
+            return Err(refusal::LIMIT);
+        }
+        self.block = book.pass(0, &self.block, coded);
+        self.taken += 1;
+        Ok(())
+    }
+
+    /// A last call: the tag.
+    pub fn last_call(&mut self, book: &[u8], coded: &[u8], kind: u8) -> Result<Block, u32> {
+        let (book, coded) = (Book::new(book)?, whole(coded)?);
+        if kind > 1 {
+            return Err(refusal::KIND);
+        }
+        if self.finished {
+            return Err(refusal::FINISHED);
+        }
+        self.finished = true;
+        Ok(book.pass(1 + usize::from(kind), &self.block, coded))
+    }
 }

@@ -1,0 +1,130 @@
+//! The second table: the parts by themselves, single blocks, and the rounds beside Rust of other shapes.
+
+use crate::driver::{self, Shape};
+use crate::timing::{shown, Times};
+use crate::{book, stack, LENGTHS};
+use reference::{lea, pad, Size};
+use shared::{chains, Random};
+use std::hint::black_box as hide;
+
+/// A row: what was called, on how many bytes, both times and their ratio.
+fn row(name: &str, bytes: usize, times: Times) {
+    let (a, b, ratio) = (shown(times.rattle), shown(times.rust), times.ratio());
+    println!("{name:<14} {bytes:>9} {a:>12} {b:>12} {ratio:>8.2}");
+}
+
+/// The head of rows: what the number in front counts, and what the two times are of.
+fn heading(bytes: &str, [first, second]: [&str; 2]) {
+    println!(
+        "{:<14} {bytes:>9} {first:>12} {second:>12} {:>8}",
+        "", "ratio"
+    );
+}
+
+/// Enciphering and deciphering from key and block, and a whole schedule: neither version knows which
+/// row will be asked for, so both make them all. Then enciphering in a loop over 4,096 blocks.
+fn cipher(size: Size) {
+    let mut random = Random(4);
+    let (key, text) = (random.bytes(size.key_bytes()), random.bytes(65_536));
+    let (key, text, block) = (key.as_slice(), text.as_slice(), &text[..16]);
+    let (mut out, mut row_of_keys) = ([0; 16], [0; 6]);
+    let encipher = Times::of(
+        || _ = hide(bowlinette::encipher(hide(key), hide(block), hide(&mut out))),
+        || _ = hide(lea::encipher(hide(key), hide(block))),
+    );
+    row("encipher", key.len(), encipher);
+    let decipher = Times::of(
+        || _ = hide(bowlinette::decipher(hide(key), hide(block), hide(&mut out))),
+        || _ = hide(lea::decipher(hide(key), hide(block))),
+    );
+    row("decipher", key.len(), decipher);
+    let schedule = Times::of(
+        || {
+            _ = hide(bowlinette::round_keys(
+                hide(key),
+                hide(0),
+                hide(&mut row_of_keys),
+            ))
+        },
+        || _ = hide(lea::round_keys(hide(key), hide(0))),
+    );
+    row("schedule", key.len(), schedule);
+    let chain = Times::of(
+        || {
+            _ = hide(bowlinette::bench_chain(
+                hide(key),
+                hide(text),
+                hide(&mut out),
+            ))
+        },
+        || _ = hide(lea::chain(hide(key), hide(text))),
+    );
+    row("chain 65536", key.len(), chain);
+}
+
+/// Coding a message of n bytes for sealing and for a tag, the check of the set included.
+fn codes(n: usize) {
+    let mut random = Random(5);
+    let (u, message) = (chains::set(&mut random), random.bytes(n));
+    let (u, message) = (u.as_slice(), message.as_slice());
+    let (mut out, mut other) = (vec![0; n + 16], vec![0; n + 16]);
+    let (mut length, mut kind) = (0, 0);
+    let sealing = Times::of(
+        || {
+            _ = hide(bowlinette::code_for_sealing(
+                hide(u),
+                hide(message),
+                &mut out,
+                &mut length,
+            ))
+        },
+        || _ = hide(pad::code_for_sealing(hide(u), hide(message), &mut other)),
+    );
+    assert!(out == other);
+    row("code to seal", n, sealing);
+    let tag = Times::of(
+        || {
+            _ = hide(bowlinette::code_for_tag(
+                hide(u),
+                hide(message),
+                &mut out,
+                &mut length,
+                &mut kind,
+            ))
+        },
+        || _ = hide(pad::code_for_tag(hide(u), hide(message), &mut other)),
+    );
+    assert!(out == other);
+    row("code to tag", n, tag);
+}
+
+pub fn print() {
+    println!("\nThe parts by themselves");
+    heading("key bytes", ["Rattle", "Rust"]);
+    for size in Size::ALL {
+        cipher(size);
+        row("check chain", size.key_bytes(), book::check_chain(size));
+    }
+    heading("message", ["Rattle", "Rust"]);
+    LENGTHS.into_iter().for_each(codes);
+    for (shape, name) in [(Shape::Plain, "plain Rust"), (Shape::Alike, "Rust alike")] {
+        heading("key bytes", ["Rattle", name]);
+        for size in Size::ALL {
+            row("rounds", size.key_bytes(), driver::rounds(size, shape));
+        }
+    }
+    let given = LENGTHS.map(|n| (n, driver::Given::new(Size::Lea128, n)));
+    heading("message", ["sealing", "its rounds"]);
+    for (n, given) in &given {
+        row("seal, key 16", *n, driver::seal_beside_rounds(given));
+    }
+    heading("message", ["Rattle", "plain Rust"]);
+    for (n, given) in &given {
+        row("seal, key 16", *n, driver::seal(given, Shape::Plain));
+        row("tag, key 16", *n, driver::tag(given, Shape::Plain));
+    }
+    println!("Stack, in bytes");
+    for (name, bytes) in stack::most() {
+        println!("{name:<20}{bytes:>4}");
+    }
+}
