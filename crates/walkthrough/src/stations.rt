@@ -65,7 +65,7 @@ fn pad_codes(u: &[u8], ink: &[u8], for_sealing: &mut [u8], for_tag: &mut [u8]) -
 fn seal_file(book: &[u8], iv: &[u8], coded: &[u8], sealed: &mut [u8]) {
     show(b"   in   IV               ", iv);
     if let Written::Refused(why) = seal(book, iv, coded, sealed) {
-        refused(b"   out  sealed file      ", why.number());
+        return refused(b"   out  sealed file      ", why.number());
     }
     show(b"   out  sealed file      ", sealed);
 }
@@ -112,7 +112,7 @@ fn counter(u: &[u8], ink: &[u8], book: &[u8], iv: &[u8], sealed: &mut [u8]) -> [
 }
 
 // The server: keeps what the driver sends and cannot read it.
-pub fn server(iv: &[u8], sealed: &[u8], tag: &[u8]) {
+fn server(iv: &[u8], sealed: &[u8], tag: &[u8]) {
     say(b"\n4. The server keeps what it was sent, unread\n");
     show(b"   has  IV               ", iv);
     show(b"   has  sealed file      ", sealed);
