@@ -1,6 +1,6 @@
 /*
  * Bowlinette: the cipher LEA, table books of it, and what is done with them, for C programs. Link
- * libexports.a.
+ * libbowlinette.a.
  *
  * Every function returns 0, or the number of a refusal. Where several refusals apply, the lowest
  * number is returned. After a refusal nothing behind any pointer has changed; after a success only
@@ -132,7 +132,7 @@ uint32_t bowlinette_check_chain(size_t key_length,
 
 /*
  * Builds the book of a key and a chain and writes it to the front of out, which may be longer: the
- * bytes behind the book stay as they were. The chain and the book have the lengths above.
+ * bytes after the book stay as they were. The chain and the book have the lengths above.
  * Refuses 1 (key length), 2 to 5 (the chain), then 9 (out shorter than the book).
  */
 uint32_t bowlinette_build(const uint8_t *key, size_t key_length,
@@ -151,7 +151,7 @@ uint32_t bowlinette_build_round(const uint8_t *key, size_t key_length,
 
 /*
  * Codes a message for sealing: pads it by PKCS#7 with 1 to 16 bytes, codes its blocks by the set u
- * and writes them to the front of out, which may be longer: the bytes behind them stay as they were.
+ * and writes them to the front of out, which may be longer: the bytes after them stay as they were.
  * How many were written goes to length.
  * Refuses 2 (length of u), 3 (its permutations), 8 (message too long), then 9 (out too short).
  */
@@ -197,7 +197,7 @@ uint32_t bowlinette_run_rounds(const uint8_t *book, size_t book_length,
 /*
  * Seals a message coded for sealing: from the IV, taken as coded by the last set, each block is folded
  * in, goes through the rounds and is written, to the front of out, which may be longer: the bytes
- * behind them stay as they were. How many were written, as many as were read, goes to length.
+ * after them stay as they were. How many were written, as many as were read, goes to length.
  * Refuses 6 (book length), 7 (IV length), 8 (coded empty, over 1,048,576 bytes or no multiple of 16),
  * then 9 (out shorter than coded).
  */
@@ -248,7 +248,7 @@ uint32_t bowlinette_last_call(bowlinette_session *session,
  * The functions below have the key, and set, the chain's set of number r, the last of its sets.
  *
  * Opens a sealed message: decodes the IV and the blocks by the set, deciphers them, takes the padding
- * off and writes the message to the front of out: the bytes behind it stay as they were. How many were
+ * off and writes the message to the front of out: the bytes after it stay as they were. How many were
  * written goes to length.
  * Refuses 1 (key length), 2 (length of the set), 3 (its permutations), 7 (IV length), 8 (sealed empty,
  * over 1,048,576 bytes or no multiple of 16), 9 (out shorter than sealed), then 11 (padding: its last

@@ -16,7 +16,7 @@ CALLS = [
     # F, CALLEE, its result, TOLD, ANSWER, R's path in cipher, how R is laid out, parameters, SPEC of h and the parameters
     ('begin', 'begin_over', 'SessionAnswer', 'sessionTold', 'outcome', 'refusal.Outcome', 'enum', ['slice'], 'begunOver {0} h'),
     ('block_call', 'block_call', 'SessionAnswer', 'sessionTold', 'outcome', 'refusal.Outcome', 'enum', ['slice', 'slice'], 'blockAnswer {0} {1} h'),
-    ('last_call', 'last_call', 'TagAnswer', 'tagTold', 'answer', 'lea.BlockAnswer', 'struct', ['slice', 'slice', 'u8'], 'lastAnswer {0} {1} {2} h'),
+    ('last_call', 'last_call', 'TagAnswer', 'tagTold', 'answer', 'answer.BlockAnswer', 'struct', ['slice', 'slice', 'u8'], 'lastAnswer {0} {1} {2} h'),
 ]
 
 
@@ -79,7 +79,6 @@ def written(F, callee, out, told, answer, path, layout, kinds, spec):
     w.append(f'''-- `lent::{F}` meets its contract: a walk of its code by hand, written by tools/lent_calls.py. The borrow is opened, the session is read
 -- out whole and passed to `session::{callee}`, the session that this hands back is stored whole, the borrow is closed, and the
 -- answer is returned. All that is known of `session::{callee}` is that it meets its contract.
--- Assumes nothing.
 use mathlib.Core.Path.{{_≡_, refl, ap}}
 use mathlib.Core.List.{{[], _∷_, List}}
 use Prim.Native.Nat.{{{nat}}}

@@ -5,7 +5,7 @@ use reference::{book, chain, Size};
 use shared::{chains, Random};
 use std::hint::black_box as hide;
 
-/// A key and a chain by chance.
+/// A random key and chain.
 struct Given {
     key: Vec<u8>,
     chain: Vec<u8>,

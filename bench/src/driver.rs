@@ -20,7 +20,7 @@ pub enum Shape {
 /// The IV, and the first block of those that go through the rounds.
 const IV: Block = [5; 16];
 
-/// A book by chance, and so many coded bytes.
+/// A random book, and so many coded bytes.
 pub struct Given {
     book: Vec<u8>,
     coded: Vec<u8>,

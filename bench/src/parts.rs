@@ -49,17 +49,17 @@ fn cipher(size: Size) {
         || _ = hide(lea::round_keys(hide(key), hide(0))),
     );
     row("schedule", key.len(), schedule);
-    let chain = Times::of(
+    let mac = Times::of(
         || {
-            _ = hide(bowlinette::bench_chain(
+            _ = hide(bowlinette::cbc_mac(
                 hide(key),
                 hide(text),
                 hide(&mut out),
             ))
         },
-        || _ = hide(lea::chain(hide(key), hide(text))),
+        || _ = hide(lea::cbc_mac(hide(key), hide(text))),
     );
-    row("chain 65536", key.len(), chain);
+    row("CBC-MAC 65536", key.len(), mac);
 }
 
 /// Coding a message of n bytes for sealing and for a tag, the check of the set included.

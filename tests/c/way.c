@@ -1,7 +1,7 @@
 /*
  * The C library as a bank's programs would use it: for each key size a message goes the whole way from
  * the pad over the driver to the archive, and every function is made to give each of its refusals. After a
- * refusal nothing that was lent may have changed; after a success nothing behind what is written.
+ * refusal nothing that was lent may have changed; after a success nothing after what is written.
  * Prints how many checks there were and how many of them failed.
  */
 #include "bowlinette.h"
@@ -258,7 +258,7 @@ static void refusals_of_the_driver(const struct size *s)
         CHECK(memcmp(&session, &was, sizeof session) == 0);        \
     } while (0)
 
-/* Refusals 6, 7, 10, 21 and 22 of a session, and that it goes on behind them to the same tag. */
+/* Refusals 6, 7, 10, 21 and 22 of a session, and that it goes on after them to the same tag. */
 static void refusals_of_a_session(const struct size *s)
 {
     bowlinette_session session = {{0}}, plain;

@@ -1,7 +1,7 @@
 /*
  * The C library beside Crypto++, which others wrote: LEA of blocks, whole files sealed and opened, and tags made by
- * sessions and checked, for keys and messages by chance. All codings are identities, so that a sealed file is
- * CBC with PKCS#7 and a tag is CMAC; the masks are by chance, as they change nothing.
+ * sessions and checked, for random keys and messages. All codings are identities, so that a sealed file is
+ * CBC with PKCS#7 and a tag is CMAC; the masks are random, as they change nothing.
  * Prints the seed, which given as an argument repeats the run, and how many comparisons there were.
  */
 #include "bowlinette.h"
@@ -103,7 +103,7 @@ static Bytes identities(size_t count)
     return codings;
 }
 
-/* A chain of identities, its masks by chance but for half byte 0. */
+/* A chain of identities, its masks random but for half byte 0. */
 static Bytes chain(const size &size)
 {
     Bytes chain = identities(32 * (size.rounds + 2));

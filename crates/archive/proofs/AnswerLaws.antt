@@ -1,6 +1,5 @@
 -- The answers of the archive, case by case. For each operation the cases exclude each other and leave none out, so each
 -- refusal is given exactly under its condition.
--- Assumes nothing.
 use mathlib.Core.Path.{_≡_, refl, sym, ap, ap₂, _∙_}
 use mathlib.Core.Bool.{Bool, true, false, cond, not}
 use mathlib.Core.List.{List, [], _∷_, _++_}
@@ -13,12 +12,12 @@ use Rattle.lists.specs.Refusals.{first}
 use Rattle.lists.proofs.RefusalLaws.{first-hit, first-pass}
 use Rattle.lists.specs.Blocks.{Bytes}
 use Rattle.cipher.specs.KeySize.{rounds, keyLength, sizeOfKey}
-use Rattle.cipher.specs.Schedule.{schedule}
 use Rattle.cipher.specs.Refusal.{numberOf, outcomeOf}
-use Rattle.cipher.specs.Lea.{firstRounds, encipher, decipher}
+use Rattle.cipher.specs.Lea.{firstRounds, encipher, decipher, keyRows}
 use Rattle.cipher.specs.Cmac.{cmac}
 use Rattle.cipher.specs.Coding.{Permutations, setOf, coded, decoded}
-use Rattle.cipher.specs.Chain.{setLength, LoneSet, setTests}
+use Rattle.cipher.specs.Chain.{LoneSet, setTests}
+use Rattle.cipher.specs.Lengths.{setLength}
 use Rattle.cipher.specs.Answers.{keyTests, keySize, blockTests, badText, textTests, roomTests, setChecked}
 use Rattle.cipher.specs.declared.size.KeySize.{KeySize}
 use Rattle.cipher.specs.declared.size.SizeFound.the-variants.{Found, Unknown}
@@ -87,13 +86,13 @@ module _ (key set message tag : List ℕ) where
         check-done h = tag-fine ∙ first-pass (ltb 1048575 (length message)) 8 [] (λ q. (q, 0)) (verdict z) (le-ltb 1048575 (length message) h)
 
         -- as the code finds it: the message's tag is coded and compared
-        pub check-verdict : length message ≤ 1048575 → (rows : List (List ℕ)) (mac x : List ℕ) (t : Bool) → rows ≡ schedule z key
+        pub check-verdict : length message ≤ 1048575 → (rows : List (List ℕ)) (mac x : List ℕ) (t : Bool) → rows ≡ keyRows z key
             → mac ≡ cmac (firstRounds rows (rounds z)) message → x ≡ coded (setOf set) mac → Bytes tag → sameBlock x tag ≡ t
             → checkAnswer key set message tag ≡ (0, cond t 1 0)
         check-verdict h rows mac x t er em ex ht es =
             let M = cmac (encipher z key) message in
             let e : mac ≡ M = em ∙ ap (λ (l : List (List ℕ)). cmac (firstRounds l (rounds z)) message) er in
-            let w = same-coded (setOf set) (v .codings) tag M (record { size = l; bytes = ht }) (block-cmac (schedule z key) (rounds z) message) in
+            let w = same-coded (setOf set) (v .codings) tag M (record { size = l; bytes = ht }) (block-cmac (keyRows z key) (rounds z) message) in
             check-done h
             ∙ ap (λ (b : Bool). (0, cond b 1 0))
             (sym w ∙ sym (ap (λ (y : List ℕ). sameBlock y tag) (ex ∙ ap (coded (setOf set)) e)) ∙ es)
@@ -110,41 +109,41 @@ module _ (key set iv sealed out : List ℕ) where
   left : ℕ → (ℕ × ℕ) × List ℕ
   left q = ((q, 0), out)
 
-  behind : List ℕ → List (Bool × ℕ)
-  behind t = blockTests iv ++ (textTests sealed ++ (roomTests (length sealed) out ++ paddingTests t))
+  after : List ℕ → List (Bool × ℕ)
+  after t = blockTests iv ++ (textTests sealed ++ (roomTests (length sealed) out ++ paddingTests t))
 
   pub open-1 : sizeOfKey (length key) ≡ Unknown → openAnswer key set iv sealed out ≡ ((1, 0), out)
   unfolding openAnswer left
   open-1 e = first-hit _ 1 _ left _ (none-of keyLength (length key) e)
 
   module _ (z : KeySize) (e : sizeOfKey (length key) ≡ Found z) where
-    open-keyed : openAnswer key set iv sealed out ≡ first (setTests set ++ behind (text z)) left (opened (text z))
-    unfolding openAnswer left opened text behind setTests
-    open-keyed = length-taken (length key) (λ z. setTests set ++ behind (text z)) left (λ z. opened (text z)) z e
+    open-keyed : openAnswer key set iv sealed out ≡ first (setTests set ++ after (text z)) left (opened (text z))
+    unfolding openAnswer left opened text after setTests
+    open-keyed = length-taken (length key) (λ z. setTests set ++ after (text z)) left (λ z. opened (text z)) z e
 
     pub open-2 : (length set ≡ setLength → ⊥) → openAnswer key set iv sealed out ≡ ((2, 0), out)
     unfolding left
-    open-2 h = open-keyed ∙ set-length-refused (behind (text z)) left (opened (text z)) set h
+    open-2 h = open-keyed ∙ set-length-refused (after (text z)) left (opened (text z)) set h
 
     pub open-3 : length set ≡ setLength → (Permutations (setOf set) → ⊥) → openAnswer key set iv sealed out ≡ ((3, 0), out)
     unfolding left
-    open-3 h p = open-keyed ∙ set-coding-refused (behind (text z)) left (opened (text z)) set h p
+    open-3 h p = open-keyed ∙ set-coding-refused (after (text z)) left (opened (text z)) set h p
 
     pub open-set : (r : Outcome) → outcomeOf r ≡ setChecked set → (q : Refusal) → r ≡ Refused q → openAnswer key set iv sealed out ≡ ((numberOf q, 0), out)
     unfolding left
-    open-set r er q d = open-keyed ∙ told-refused (behind (text z)) left (opened (text z)) (setTests set) (numberOf q) (number-more q) (sym er ∙ ap outcomeOf d)
+    open-set r er q d = open-keyed ∙ told-refused (after (text z)) left (opened (text z)) (setTests set) (numberOf q) (number-more q) (sym er ∙ ap outcomeOf d)
 
     module _ (v : LoneSet set) where
-      open-fine : openAnswer key set iv sealed out ≡ first (behind (text z)) left (opened (text z))
-      open-fine = open-keyed ∙ set-taken (behind (text z)) left (opened (text z)) set v
+      open-fine : openAnswer key set iv sealed out ≡ first (after (text z)) left (opened (text z))
+      open-fine = open-keyed ∙ set-taken (after (text z)) left (opened (text z)) set v
 
       pub open-7 : (length iv ≡ 16 → ⊥) → openAnswer key set iv sealed out ≡ ((7, 0), out)
-      unfolding behind left
+      unfolding after left
       open-7 h = open-fine ∙ block-refused iv (textTests sealed ++ (roomTests (length sealed) out ++ paddingTests (text z))) left (opened (text z)) h
 
       module _ (l : length iv ≡ 16) where
         open-begun : openAnswer key set iv sealed out ≡ first (textTests sealed ++ (roomTests (length sealed) out ++ paddingTests (text z))) left (opened (text z))
-        unfolding behind
+        unfolding after
         open-begun = open-fine ∙ block-taken iv (textTests sealed ++ (roomTests (length sealed) out ++ paddingTests (text z))) left (opened (text z)) l
 
         pub open-8 : badText (length sealed) ≡ true → openAnswer key set iv sealed out ≡ ((8, 0), out)

@@ -1,5 +1,4 @@
 -- Comparing a tag: two blocks are the same or not, and a tag decoded is the CMAC exactly if the CMAC coded is the tag.
--- Assumes nothing.
 use mathlib.Core.Path.{_≡_, refl, sym, ap, _∙_}
 use mathlib.Core.Bool.{Bool, true, false}
 use mathlib.Core.List.{List}

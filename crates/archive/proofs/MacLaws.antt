@@ -1,5 +1,4 @@
 -- CMAC as the code makes it: the last block of a message, filled and under its subkey, and the whole.
--- Assumes nothing.
 use mathlib.Core.Path.{_≡_, refl, sym, ap, ap₂, _∙_}
 use mathlib.Core.Bool.{Bool, true, false, cond}
 use mathlib.Core.List.{List, _∷_, _++_, append-nil}
@@ -17,10 +16,10 @@ use Rattle.lists.proofs.PartLaws.{fill-more}
 use Rattle.cipher.specs.Word.{xorWords}
 use Rattle.cipher.specs.Schedule.{words4}
 use Rattle.cipher.specs.Lea.{forward, bytes, firstRounds}
-use Rattle.cipher.specs.Cmac.{subkey1, subkey2, chained, blocksBefore, lastBlock, cmac}
+use Rattle.cipher.specs.Cmac.{subkey1, subkey2, cbcMac, blocksBefore, lastBlock, cmac}
 use Rattle.cipher.proofs.LeaLaws.{words-xor, block-rounds}
 use Rattle.cipher.proofs.CmacLaws.{block-double}
-use Rattle.cipher.proofs.ChainingLaws.{chained-block}
+use Rattle.cipher.proofs.CbcMacLaws.{mac-block}
 use Rattle.archive.specs.Mac.{filledBlock, lastUnder}
 
 -- ---- the last block
@@ -28,7 +27,7 @@ use Rattle.archive.specs.Mac.{filledBlock, lastUnder}
 copied : (p : List ℕ) → tab (length p) (λ i. getD p i 0) ≡ p
 copied p = tab-is (length p) (λ i. getD p i 0) p refl (λ i h. refl)
 
--- a part copied into a zero block, and hex 80 behind it
+-- a part copied into a zero block, and hex 80 after it
 pub filled-part : (p b : List ℕ) (k : ℕ) → b ≡ tab k (λ i. getD p i 0) ++ replicate (16 - k) 0 → k ≡ length p → length p < 16
     → set b (length p) 0x80 ≡ filledBlock p
 unfolding filledBlock
@@ -104,16 +103,16 @@ before-most m n e = omega arith
 
 module _ (rows : List (List ℕ)) (r : ℕ) (m : List ℕ) where
   pub cmac-is : (n : ℕ) (k1 k2 p x l y z : List ℕ) → n ≡ blocksBefore (length m) → k1 ≡ subkey1 (firstRounds rows r) → k2 ≡ subkey2 (firstRounds rows r)
-      → p ≡ drop (16 * n) m → Bytes m → x ≡ words4 (chained (firstRounds rows r) zeros (cut n m)) → l ≡ words4 (lastUnder k1 k2 p)
+      → p ≡ drop (16 * n) m → Bytes m → x ≡ words4 (cbcMac (firstRounds rows r) zeros (cut n m)) → l ≡ words4 (lastUnder k1 k2 p)
       → y ≡ forward rows r (xorWords x l) → z ≡ bytes y → z ≡ cmac (firstRounds rows r) m
   unfolding cmac firstRounds subkey1 subkey2
   cmac-is n k1 k2 p x l y z en e1 e2 ep hm ex el ey ez =
-      let hx = chained-block rows r zeros (cut n m) block-zeros .bytes in
+      let hx = mac-block rows r zeros (cut n m) block-zeros .bytes in
       let hl = bytes-last k1 k2 p (rw e1 (block-double (firstRounds rows r zeros) .bytes)) (rw e2 (block-double (subkey1 (firstRounds rows r)) .bytes)) (rw ep (bytes-drop (16 * n) m hm)) in
       ez
-      ∙ ap bytes (ey ∙ ap (forward rows r) (ap₂ xorWords ex el ∙ sym (words-xor (chained (firstRounds rows r) zeros (cut n m)) (lastUnder k1 k2 p) hx hl)))
+      ∙ ap bytes (ey ∙ ap (forward rows r) (ap₂ xorWords ex el ∙ sym (words-xor (cbcMac (firstRounds rows r) zeros (cut n m)) (lastUnder k1 k2 p) hx hl)))
       ∙ ap₂ (λ (a b : List ℕ). firstRounds rows r (xorBlock a b))
-      (ap (λ (k : ℕ). chained (firstRounds rows r) zeros (cut k m)) en)
+      (ap (λ (k : ℕ). cbcMac (firstRounds rows r) zeros (cut k m)) en)
       ((λ i. lastUnder (e1 i) (e2 i) (ep i)) ∙ last-under (firstRounds rows r) (drop (16 * n) m) ∙ ap (λ (k : ℕ). lastBlock (firstRounds rows r) (drop (16 * k) m)) en)
 
 pub block-cmac : (rows : List (List ℕ)) (r : ℕ) (m : List ℕ) → Block (cmac (firstRounds rows r) m)

@@ -1,5 +1,4 @@
 -- A sealed text opened block by block is the sealed text opened.
--- Assumes nothing.
 use mathlib.Core.Path.{_≡_, refl, sym, ap, ap₂, _∙_, fun-ext}
 use mathlib.Core.List.{List, [], _∷_, _++_, map, flatten}
 use Prim.Native.Nat.{ℕ, zero, suc, _+_, _-_, _*_, _/_, _≤_}
@@ -129,9 +128,9 @@ module _ (g : ℕ → List ℕ) (h : (k : ℕ) → length (g k) ≡ 16) (out₀ 
       put-more (chunks k g) out₀ out y (16 * k) 16 (chunks-length k) eo
       ∙ ap₂ {C = List ℕ} (λ (a : List ℕ) (n : ℕ). a ++ drop n out₀) (ap (λ (b : List ℕ). chunks k g ++ b) ey ∙ sym (chunks-more k g)) q
 
-  -- behind the k blocks opened so far all is as it was
-  pub behind : (k n : ℕ) (out : List ℕ) → k ≤ n → out ≡ chunks k g ++ drop (16 * k) out₀ → drop (16 * n) out ≡ drop (16 * n) out₀
-  behind k n out l e =
+  -- after the k blocks opened so far all is as it was
+  pub after : (k n : ℕ) (out : List ℕ) → k ≤ n → out ≡ chunks k g ++ drop (16 * k) out₀ → drop (16 * n) out ≡ drop (16 * n) out₀
+  after k n out l e =
       let q : 16 * n ≡ 16 * k + 16 * (n - k) = omega arith in
       let d = 16 * (n - k) in
       ap₂ {C = List ℕ} (λ (j : ℕ) (o : List ℕ). drop j o) q e
@@ -141,7 +140,7 @@ module _ (g : ℕ → List ℕ) (h : (k : ℕ) → length (g k) ≡ 16) (out₀ 
       ∙ ap (λ (j : ℕ). drop j out₀) (sym q)
 
   pub own-rest : (k : ℕ) (out : List ℕ) → out ≡ chunks k g ++ drop (16 * k) out₀ → out ≡ chunks k g ++ drop (16 * k) out
-  own-rest k out e = e ∙ ap (λ (r : List ℕ). chunks k g ++ r) (sym (behind k k out (omega arith) e))
+  own-rest k out e = e ∙ ap (λ (r : List ℕ). chunks k g ++ r) (sym (after k k out (omega arith) e))
 
 -- ---- what the code reads in front of a block
 

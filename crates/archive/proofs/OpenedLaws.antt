@@ -1,5 +1,4 @@
 -- Opening as the code goes about it: the last block first, then the others, then the front of the last one.
--- Assumes nothing.
 use mathlib.Core.Path.{_≡_, sym, ap, ap₂, _∙_, subst}
 use mathlib.Core.Bool.{true, false, cond}
 use mathlib.Core.List.{List, _++_}
@@ -12,7 +11,7 @@ use Rattle.lists.specs.Blocks.{Bytes}
 use Rattle.lists.proofs.ChunkLaws.{chunks-more}
 use Rattle.lists.proofs.PartLaws.{put-more}
 use Rattle.cipher.specs.KeySize.{rounds, sizeOfKey}
-use Rattle.cipher.specs.Schedule.{schedule}
+use Rattle.cipher.specs.Lea.{keyRows}
 use Rattle.cipher.specs.Lea.{undoneRounds, decipher}
 use Rattle.cipher.specs.Coding.{Permutation, FirstPermutations, LowSet, codingAt, setOf, decoded, inverted}
 use Rattle.cipher.specs.Images.{imagesOf, imaged}
@@ -20,7 +19,7 @@ use Rattle.cipher.specs.Chain.{LoneSet}
 use Rattle.cipher.specs.Answers.{badText}
 use Rattle.cipher.specs.declared.size.KeySize.{KeySize}
 use Rattle.cipher.specs.declared.size.SizeFound.the-variants.{Found}
-use Rattle.cipher.proofs.ScheduleLaws.{schedule-words}
+use Rattle.cipher.proofs.ScheduleLaws.{key-words}
 use Rattle.cipher.proofs.CodingLaws.{block-decoded}
 use Rattle.cipher.proofs.InverseLaws.{length-inverted, low-inverted}
 use Rattle.cipher.proofs.ImageLaws.{length-images, bytes-images}
@@ -46,38 +45,38 @@ codes-ready s t v e = rw e (omega (arith, length-inverted 32 s), low-inverted s 
 pub table-ready : (s t : List ℕ) → LoneSet s → t ≡ imagesOf (inverted 32 s) → Table t
 table-ready s t v e = rw e (length-images (inverted 32 s), bytes-images (inverted 32 s) (low-inverted s (v .codings)))
 
-pub rows-ready : (z : KeySize) (key : List ℕ) (rows : List (List ℕ)) → rows ≡ schedule z key → Bytes key → WordRows rows
-rows-ready z key rows e h = rw e (schedule-words z key h)
+pub rows-ready : (z : KeySize) (key : List ℕ) (rows : List (List ℕ)) → rows ≡ keyRows z key → Bytes key → WordRows rows
+rows-ready z key rows e h = rw e (key-words z key h)
 
 module _ (key set iv sealed out : List ℕ) (z : KeySize) (ek : sizeOfKey (length key) ≡ Found z) (v : LoneSet set) (l : length iv ≡ 16)
     (d : badText (length sealed) ≡ false) (w : length sealed ≤ length out) where
   -- block k, opened, and how many blocks come before the last one
   block : ℕ → List ℕ
-  block = openedBlock (schedule z key) (rounds z) (decoded (setOf set)) iv sealed
+  block = openedBlock (keyRows z key) (rounds z) (decoded (setOf set)) iv sealed
 
   before : ℕ
   before = length sealed / 16 - 1
 
   size : (k : ℕ) → length (block k) ≡ 16
   unfolding block
-  size k = block-opened (schedule z key) (rounds z) (decoded (setOf set)) (block-decoded (setOf set) (v .codings)) iv sealed k .size
+  size k = block-opened (keyRows z key) (rounds z) (decoded (setOf set)) (block-decoded (setOf set) (v .codings)) iv sealed k .size
 
   text-is : openedText (decipher z key) (setOf set) iv sealed ≡ chunks before block ++ block before
   unfolding block before
   text-is =
       let t = text-known (length sealed) d in
       let e : length sealed / 16 ≡ length sealed / 16 - 1 + 1 = omega (arith, t .0, t .2) in
-      opened-text (schedule z key) (rounds z) (setOf set) iv sealed
-      ∙ ap (λ (n : ℕ). chunks n (openedBlock (schedule z key) (rounds z) (decoded (setOf set)) iv sealed)) e
-      ∙ chunks-more (length sealed / 16 - 1) (openedBlock (schedule z key) (rounds z) (decoded (setOf set)) iv sealed)
+      opened-text (keyRows z key) (rounds z) (setOf set) iv sealed
+      ∙ ap (λ (n : ℕ). chunks n (openedBlock (keyRows z key) (rounds z) (decoded (setOf set)) iv sealed)) e
+      ∙ chunks-more (length sealed / 16 - 1) (openedBlock (keyRows z key) (rounds z) (decoded (setOf set)) iv sealed)
 
-  module _ (hi : Bytes iv) (hs : Bytes sealed) (rows : List (List ℕ)) (table last : List ℕ) (p : ℕ) (er : rows ≡ schedule z key) (et : table ≡ imagesOf (inverted 32 set))
+  module _ (hi : Bytes iv) (hs : Bytes sealed) (rows : List (List ℕ)) (table last : List ℕ) (p : ℕ) (er : rows ≡ keyRows z key) (et : table ≡ imagesOf (inverted 32 set))
       (el : last ≡ openedBlock rows (rounds z) (imaged table) iv sealed (length sealed / 16 - 1)) (ep : p ≡ cond (endsPadded last) (lastByte last) 0) where
     same : openedBlock rows (rounds z) (imaged table) iv sealed ≡ block
     unfolding block
     same =
         ap₂ (λ (r : List (List ℕ)) (t : List ℕ). openedBlock r (rounds z) (imaged t) iv sealed) er et
-        ∙ opened-alike (schedule z key) (rounds z) (imaged (imagesOf (inverted 32 set))) (decoded (setOf set)) (decoded-imaged set) iv sealed hi hs
+        ∙ opened-alike (keyRows z key) (rounds z) (imaged (imagesOf (inverted 32 set))) (decoded (setOf set)) (decoded-imaged set) iv sealed hi hs
 
     last-is : last ≡ block before
     unfolding before
@@ -111,7 +110,7 @@ module _ (key set iv sealed out : List ℕ) (z : KeySize) (ek : sizeOfKey (lengt
           ∙ length-append (chunks before block) (take (16 - p) last)
           ∙ omega (arith, t .0, t .2, few, chunks-length block size out before, length-take-le (16 - p) last (omega (arith, ap length last-is, size before)))
 
-      -- there is room for the front of the last block behind the others
+      -- there is room for the front of the last block after the others
       pub room-left : (o : List ℕ) → o ≡ chunks (length sealed / 16 - 1) (openedBlock rows (rounds z) (imaged table) iv sealed) ++ drop (16 * (length sealed / 16 - 1)) out
           → 16 * (length sealed / 16 - 1) + (16 - p) ≤ length o
       unfolding before

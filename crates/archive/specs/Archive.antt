@@ -1,12 +1,12 @@
 -- The archive (document 01, "Pad, driver, archive" and "Refusals from the input"), which has the key and set r: what opening
 -- and checking answer.
--- Assumes nothing.
 use mathlib.Core.Bool.{Bool, cond, not, _&&_}
 use mathlib.Core.List.{List, [], _∷_, _++_, map, flatten}
 use Prim.Native.Nat.{ℕ, _+_, _-_}
 use lib.Dec.{eqb, leb, ltb}
 use lib.ListN.{length, getD, take, drop}
-use Rattle.lists.specs.Blocks.{blocks}
+use Rattle.cipher.specs.Lengths.{longestMessage}
+use Rattle.lists.specs.Blocks.{blocks, blockLength}
 use Rattle.lists.specs.Every.{every}
 use Rattle.lists.specs.Refusals.{first}
 use Rattle.cipher.specs.Lea.{encipher, decipher}
@@ -32,7 +32,7 @@ lastByte t = getD t (length t - 1) 0
 
 unfoldable pub endsPadded : List ℕ → Bool
 endsPadded t =
-    leb 1 (lastByte t) && leb (lastByte t) 16 && every (lastByte t) (λ k. eqb (getD t (length t - lastByte t + k) 0) (lastByte t))
+    leb 1 (lastByte t) && leb (lastByte t) blockLength && every (lastByte t) (λ k. eqb (getD t (length t - lastByte t + k) 0) (lastByte t))
 
 abbrev pub paddingTests : List ℕ → List (Bool × ℕ)
 paddingTests t = (not (endsPadded t), 11) ∷ []
@@ -56,7 +56,7 @@ openAnswer key set iv sealed out =
 
 -- two blocks are the same
 unfoldable pub sameBlock : List ℕ → List ℕ → Bool
-sameBlock a b = every 16 (λ k. eqb (getD a k 0) (getD b k 0))
+sameBlock a b = every blockLength (λ k. eqb (getD a k 0) (getD b k 0))
 
 -- an answer as a number and a verdict: 1 is Valid, 0 Invalid
 abbrev pub checkedTold : Checked → ℕ × ℕ
@@ -66,7 +66,7 @@ checkedTold (Refused q) = (numberOf q, 0)
 
 -- refusal 8: a message over 1,048,575 bytes
 abbrev pub messageTests : List ℕ → List (Bool × ℕ)
-messageTests m = (ltb 1048575 (length m), 8) ∷ []
+messageTests m = (ltb longestMessage (length m), 8) ∷ []
 
 abbrev pub checkTests : List ℕ → List ℕ → List ℕ → List ℕ → List (Bool × ℕ)
 checkTests key set message tag = keyTests key ++ (setTests set ++ (blockTests tag ++ messageTests message))

@@ -1,9 +1,9 @@
 -- A sealed text opened block by block, where f decodes a block, under any rows: inner functions' own words for `openedText`.
--- Assumes nothing.
 use mathlib.Core.Path.{_≡_}
 use mathlib.Core.List.{List, []}
 use Prim.Native.Nat.{ℕ, zero, suc, _^_}
 use lib.ListN.{length, getD}
+use Rattle.cipher.specs.Lengths.{imagesLength}
 use Rattle.lists.specs.Blocks.{Below, Bytes, xorBlock, blockOf}
 use Rattle.cipher.specs.Lea.{undoneRounds}
 
@@ -13,7 +13,7 @@ WordRows rows = (l : ℕ) → Below (2 ^ 32) (getD rows l [])
 
 -- a byte for each byte in each place of a block
 abbrev pub Table : List ℕ → Type 0
-Table t = (length t ≡ 4096) × Bytes t
+Table t = (length t ≡ imagesLength) × Bytes t
 
 -- what stands in front of block k of a text: the IV in front of the first
 unfoldable pub blockBefore : List ℕ → List ℕ → ℕ → List ℕ

@@ -4,6 +4,8 @@ ghost use mathlib.Core.Path.{_≡_};
 ghost use mathlib.Core.List.{_++_};
 ghost use Prim.Native.Nat.{_+_, _*_, _≤_};
 ghost use lib.ListN.{length, take, drop};
+ghost use Rattle.cipher.specs.Lengths.{imagesLength};
+ghost use Rattle.lists.specs.Blocks.{blockLength};
 ghost use Rattle.lists.specs.Tabulation.{chunks};
 ghost use Rattle.cipher.specs.KeySize as S;
 ghost use Rattle.cipher.specs.Word.{xorWords};
@@ -13,6 +15,7 @@ ghost use Rattle.cipher.specs.Images.{imaged};
 ghost use Rattle.archive.specs.Blocks.{WordRows, Table, blockBefore, openedBlock};
 use cipher::block::put_block;
 use cipher::image::look_up;
+use cipher::lengths;
 use cipher::round::four_unrounds;
 use cipher::rows::decipher;
 use cipher::size::KeySize;
@@ -30,24 +33,24 @@ struct Four {
 
 // The block at a place of a text, decoded, in words.
 fn decoded_words(table: &[u8], text: &[u8], at: usize) -> [u32; 4]
-    requires { ⌜ (length (now table) ≡ 4096) × (at + 16 ≤ length (now text)) ⌝ }
-    ensures { λ r. ⌜ r ≡ words4 (imaged (now (table .entry)) (take 16 (drop at (now (text .entry))))) ⌝ }
+    requires { ⌜ (length (now table) ≡ imagesLength) × (at + blockLength ≤ length (now text)) ⌝ }
+    ensures { λ r. ⌜ r ≡ words4 (imaged (now (table .entry)) (take blockLength (drop at (now (text .entry))))) ⌝ }
 {
     let mut b = [0u8; 16];
-    let e = at + 16;
+    let e = at + lengths::BLOCK;
     look_up(table, &text[at..e], &mut b);
     words(&b)
 }
 
 // What stands in front of block k of a sealed text, decoded, in words: the IV in front of the first.
 fn before_words(table: &[u8], iv: &[u8], sealed: &[u8], k: usize) -> [u32; 4]
-    requires { ⌜ (length (now table) ≡ 4096) × (length (now iv) ≡ 16) × (16 * k ≤ length (now sealed)) ⌝ }
+    requires { ⌜ (length (now table) ≡ imagesLength) × (length (now iv) ≡ blockLength) × (blockLength * k ≤ length (now sealed)) ⌝ }
     ensures { λ r. ⌜ r ≡ words4 (imaged (now (table .entry)) (blockBefore (now (iv .entry)) (now (sealed .entry)) k)) ⌝ }
 {
     if k == 0 {
         return decoded_words(table, iv, 0);
     }
-    decoded_words(table, sealed, 16 * (k - 1))
+    decoded_words(table, sealed, lengths::BLOCK * (k - 1))
 }
 
 // Block k of a sealed text opened.
@@ -59,11 +62,11 @@ pub fn open_block(
     sealed: &[u8],
     k: usize,
 ) -> [u8; 16]
-    requires { ⌜ WordRows rows × Table (now table) × (length (now iv) ≡ 16) × (16 * k + 16 ≤ length (now sealed)) ⌝ }
+    requires { ⌜ WordRows rows × Table (now table) × (length (now iv) ≡ blockLength) × (blockLength * k + blockLength ≤ length (now sealed)) ⌝ }
     ensures { λ r. ⌜ r ≡ openedBlock rows (S.rounds size) (imaged (now (table .entry))) (now (iv .entry)) (now (sealed .entry)) k ⌝ }
 {
     let prior = before_words(table, iv, sealed, k);
-    let c = decoded_words(table, sealed, 16 * k);
+    let c = decoded_words(table, sealed, lengths::BLOCK * k);
     bytes(xor(decipher(rows, size, c), prior))
 }
 
@@ -96,8 +99,8 @@ fn decipher_four(rows: &[[u32; 6]; 32], size: KeySize, x: Four) -> Four
 
 // The xor of two blocks of words written over the 16 bytes of out from a place on.
 fn put_xored(out: &mut [u8], at: usize, x: [u32; 4], y: [u32; 4])
-    requires { ⌜ at + 16 ≤ length (now out) ⌝ }
-    ensures { λ _. ⌜ now (out .exit) ≡ take at (now (out .entry)) ++ L.bytes (xorWords x y) ++ drop (at + 16) (now (out .entry)) ⌝ }
+    requires { ⌜ at + blockLength ≤ length (now out) ⌝ }
+    ensures { λ _. ⌜ now (out .exit) ≡ take at (now (out .entry)) ++ L.bytes (xorWords x y) ++ drop (at + blockLength) (now (out .entry)) ⌝ }
 {
     put_block(out, at, bytes(xor(x, y)));
 }
@@ -113,8 +116,8 @@ pub fn open_blocks(
     n: usize,
     out: &mut [u8],
 )
-    requires { ⌜ WordRows rows × Table (now table) × (length (now iv) ≡ 16) × (n ≤ 65536) × (16 * n ≤ length (now sealed)) × (16 * n ≤ length (now out)) ⌝ }
-    ensures { λ _. ⌜ now (out .exit) ≡ chunks n (openedBlock rows (S.rounds size) (imaged (now (table .entry))) (now (iv .entry)) (now (sealed .entry))) ++ drop (16 * n) (now (out .entry)) ⌝ }
+    requires { ⌜ WordRows rows × Table (now table) × (length (now iv) ≡ blockLength) × (n ≤ 65536) × (blockLength * n ≤ length (now sealed)) × (blockLength * n ≤ length (now out)) ⌝ }
+    ensures { λ _. ⌜ now (out .exit) ≡ chunks n (openedBlock rows (S.rounds size) (imaged (now (table .entry))) (now (iv .entry)) (now (sealed .entry))) ++ drop (blockLength * n) (now (out .entry)) ⌝ }
 {
     let fours = n / 4;
     for j in 0..fours {
@@ -123,21 +126,25 @@ pub fn open_blocks(
         let m = l + 1;
         let o = m + 1;
         let prior = before_words(table, iv, sealed, k);
-        let a = decoded_words(table, sealed, 16 * k);
-        let b = decoded_words(table, sealed, 16 * l);
-        let c = decoded_words(table, sealed, 16 * m);
-        let d = decoded_words(table, sealed, 16 * o);
+        let a = decoded_words(table, sealed, lengths::BLOCK * k);
+        let b = decoded_words(table, sealed, lengths::BLOCK * l);
+        let c = decoded_words(table, sealed, lengths::BLOCK * m);
+        let d = decoded_words(table, sealed, lengths::BLOCK * o);
         let y = decipher_four(&rows, size, Four { a, b, c, d });
         let e = y.a;
         let f = y.b;
         let g = y.c;
         let h = y.d;
-        put_xored(out, 16 * k, e, prior);
-        put_xored(out, 16 * l, f, a);
-        put_xored(out, 16 * m, g, b);
-        put_xored(out, 16 * o, h, c);
+        put_xored(out, lengths::BLOCK * k, e, prior);
+        put_xored(out, lengths::BLOCK * l, f, a);
+        put_xored(out, lengths::BLOCK * m, g, b);
+        put_xored(out, lengths::BLOCK * o, h, c);
     }
     for k in 4 * fours..n {
-        put_block(out, 16 * k, open_block(rows, size, table, iv, sealed, k));
+        put_block(
+            out,
+            lengths::BLOCK * k,
+            open_block(rows, size, table, iv, sealed, k),
+        );
     }
 }

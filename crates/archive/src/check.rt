@@ -1,13 +1,15 @@
 // Checking a tag (document 01, "Pad, driver, archive", its last sentence).
 ghost use mathlib.Core.Path.{_≡_};
 ghost use lib.ListN.{length};
+ghost use Rattle.lists.specs.Blocks.{blockLength};
 ghost use Rattle.archive.specs.Archive as R;
 use crate::mac::cmac;
 use cipher::block::code_block;
 use cipher::chain::check_set;
+use cipher::lengths;
 use cipher::refusal::Outcome;
 use cipher::refusal::Refusal;
-use cipher::schedule::schedule;
+use cipher::schedule::key_rows;
 use cipher::size::KeySize;
 use cipher::size::SizeFound;
 
@@ -18,15 +20,12 @@ pub enum Checked {
     Refused(Refusal),
 }
 
-// The longest message, in bytes.
-const LONGEST: usize = 1048575;
-
 // Whether a block is what a slice of 16 bytes holds.
 fn same(a: [u8; 16], b: &[u8]) -> bool
-    requires { ⌜ length (now b) ≡ 16 ⌝ }
+    requires { ⌜ length (now b) ≡ blockLength ⌝ }
     ensures { λ r. ⌜ r ≡ R.sameBlock a (now (b .entry)) ⌝ }
 {
-    for k in 0..16 {
+    for k in 0..lengths::BLOCK {
         if a[k] != b[k] {
             return false;
         }
@@ -45,13 +44,13 @@ pub fn check(key: &[u8], set: &[u8], message: &[u8], tag: &[u8]) -> Checked
     if let Outcome::Refused(why) = check_set(set) {
         return Checked::Refused(why);
     }
-    if tag.len() != 16 {
+    if tag.len() != lengths::BLOCK {
         return Checked::Refused(Refusal::BlockLength);
     }
-    if LONGEST < message.len() {
+    if lengths::LONGEST_MESSAGE < message.len() {
         return Checked::Refused(Refusal::MessageLength);
     }
-    let mac = cmac(schedule(size, key), size, message);
+    let mac = cmac(key_rows(size, key), size, message);
     if same(code_block(set, mac), tag) {
         return Checked::Valid;
     }

@@ -2,15 +2,16 @@
 ghost use mathlib.Core.Path.{_≡_};
 ghost use Prim.Native.Nat.{_≤_};
 ghost use lib.ListN.{length};
-ghost use Rattle.lists.specs.Blocks.{Block};
+ghost use Rattle.lists.specs.Blocks.{Block, blockLength};
 ghost use Rattle.cipher.specs.KeySize as S;
 ghost use Rattle.cipher.specs.Schedule.{words4};
 ghost use Rattle.cipher.specs.Lea.{firstRounds};
 ghost use Rattle.cipher.specs.Cmac as C;
 ghost use Rattle.archive.specs.Mac.{filledBlock, lastUnder};
 use cipher::cmac::SubkeyPair;
-use cipher::cmac::chain;
+use cipher::cmac::cbc_mac;
 use cipher::cmac::subkeys;
+use cipher::lengths;
 use cipher::rows::encipher;
 use cipher::size::KeySize;
 use cipher::word::bytes;
@@ -24,12 +25,12 @@ fn blocks_before(n: usize) -> usize
     if n == 0 {
         return 0;
     }
-    (n - 1) / 16
+    (n - 1) / lengths::BLOCK
 }
 
-// What is left of a message as a block: hex 80 and zeros come behind it where it is not complete.
+// What is left of a message as a block: hex 80 and zeros come after it where it is not complete.
 fn filled(part: &[u8]) -> [u8; 16]
-    requires { ⌜ length (now part) ≤ 16 ⌝ }
+    requires { ⌜ length (now part) ≤ blockLength ⌝ }
     ensures { λ r. ⌜ r ≡ filledBlock (now (part .entry)) ⌝ }
 {
     let n = part.len();
@@ -37,7 +38,7 @@ fn filled(part: &[u8]) -> [u8; 16]
     for k in 0..n {
         b[k] = part[k];
     }
-    if n < 16 {
+    if n < lengths::BLOCK {
         b[n] = 0x80;
     }
     b
@@ -45,11 +46,11 @@ fn filled(part: &[u8]) -> [u8; 16]
 
 // The last block of a message, of which a part is left, under its subkey, in words.
 fn last_words(part: &[u8], keys: SubkeyPair) -> [u32; 4]
-    requires { ⌜ (length (now part) ≤ 16) × Block (keys .k1) × Block (keys .k2) ⌝ }
+    requires { ⌜ (length (now part) ≤ blockLength) × Block (keys .k1) × Block (keys .k2) ⌝ }
     ensures { λ r. ⌜ r ≡ words4 (lastUnder (keys .k1) (keys .k2) (now (part .entry))) ⌝ }
 {
     let b = filled(part);
-    if part.len() == 16 {
+    if part.len() == lengths::BLOCK {
         let k1 = keys.k1;
         return xor(words(&b), words(&k1));
     }
@@ -62,8 +63,8 @@ pub fn cmac(rows: [[u32; 6]; 32], size: KeySize, message: &[u8]) -> [u8; 16]
     ensures { λ r. ⌜ r ≡ C.cmac (firstRounds rows (S.rounds size)) (now (message .entry)) ⌝ }
 {
     let n = blocks_before(message.len());
-    let at = 16 * n;
-    let x = chain(rows, size, message, n);
+    let at = lengths::BLOCK * n;
+    let x = cbc_mac(rows, size, message, n);
     let last = last_words(&message[at..], subkeys(rows, size));
     bytes(encipher(rows, size, xor(x, last)))
 }

@@ -3,6 +3,8 @@ ghost use mathlib.Core.Path.{_≡_};
 ghost use mathlib.Core.List.{_++_};
 ghost use Prim.Native.Nat.{_+_, _≤_};
 ghost use lib.ListN.{length, take, drop};
+ghost use Rattle.cipher.specs.Lengths.{imagesLength};
+ghost use Rattle.lists.specs.Blocks.{blockLength};
 ghost use Rattle.cipher.specs.Refusal.{writtenOf};
 ghost use Rattle.cipher.specs.Coding.{inverted};
 ghost use Rattle.cipher.specs.Images.{imagesOf};
@@ -15,16 +17,17 @@ use cipher::block::bad_text;
 use cipher::chain::check_set;
 use cipher::image::images;
 use cipher::invert::invert;
+use cipher::lengths;
 use cipher::refusal::Outcome;
 use cipher::refusal::Refusal;
 use cipher::refusal::Written;
-use cipher::schedule::schedule;
+use cipher::schedule::key_rows;
 use cipher::size::KeySize;
 use cipher::size::SizeFound;
 
 // The first n bytes of a block over those of out from a place on.
 fn put_part(out: &mut [u8], at: usize, b: [u8; 16], n: usize)
-    requires { ⌜ (n ≤ 16) × (at + n ≤ length (now out)) ⌝ }
+    requires { ⌜ (n ≤ blockLength) × (at + n ≤ length (now out)) ⌝ }
     ensures { λ _. ⌜ now (out .exit) ≡ take at (now (out .entry)) ++ take n b ++ drop (at + n) (now (out .entry)) ⌝ }
 {
     for k in 0..n {
@@ -34,11 +37,11 @@ fn put_part(out: &mut [u8], at: usize, b: [u8; 16], n: usize)
 
 // What each byte of a block decodes to in its place, by a set.
 fn decodings(set: &[u8], table: &mut [u8])
-    requires { ⌜ LoneSet (now set) × (length (now table) ≡ 4096) ⌝ }
+    requires { ⌜ LoneSet (now set) × (length (now table) ≡ imagesLength) ⌝ }
     ensures { λ _. ⌜ now (table .exit) ≡ imagesOf (inverted 32 (now (set .entry))) ⌝ }
 {
-    let mut codes = [0u8; KeySize::SET];
-    invert(set, KeySize::SET_CODINGS, &mut codes);
+    let mut codes = [0u8; lengths::SET];
+    invert(set, lengths::SET_CODINGS, &mut codes);
     images(&codes, table);
 }
 
@@ -53,7 +56,7 @@ pub fn open(key: &[u8], set: &[u8], iv: &[u8], sealed: &[u8], out: &mut [u8]) ->
     if let Outcome::Refused(why) = check_set(set) {
         return Written::Refused(why);
     }
-    if iv.len() != 16 {
+    if iv.len() != lengths::BLOCK {
         return Written::Refused(Refusal::BlockLength);
     }
     let n = sealed.len();
@@ -63,16 +66,16 @@ pub fn open(key: &[u8], set: &[u8], iv: &[u8], sealed: &[u8], out: &mut [u8]) ->
     if out.len() < n {
         return Written::Refused(Refusal::ShortBuffer);
     }
-    let rows = schedule(size, key);
-    let mut table = [0u8; 4096];
+    let rows = key_rows(size, key);
+    let mut table = [0u8; lengths::IMAGES];
     decodings(set, &mut table);
-    let k = n / 16 - 1;
+    let k = n / lengths::BLOCK - 1;
     let last = open_block(rows, size, &table, iv, sealed, k);
     let v = padding(last);
     if v == 0 {
         return Written::Refused(Refusal::BadPadding);
     }
     open_blocks(rows, size, &table, iv, sealed, k, out);
-    put_part(out, 16 * k, last, 16 - v);
+    put_part(out, lengths::BLOCK * k, last, lengths::BLOCK - v);
     Written::Bytes(n - v)
 }

@@ -4,17 +4,22 @@ ghost use mathlib.Core.Bool.{cond};
 ghost use Prim.Native.Nat.{_+_, _-_, _≤_};
 ghost use lib.Dec.{eqb};
 ghost use lib.ListN.{getD};
+ghost use Rattle.lists.specs.Blocks.{blockLength};
 ghost use Rattle.lists.specs.Every.{every};
 ghost use Rattle.archive.specs.Archive.{endsPadded, lastByte};
 use cipher::invert::wide;
+use cipher::lengths;
+
+// The last byte of a block.
+const LAST: usize = lengths::BLOCK - 1;
 
 // Whether the last v bytes of a block are all v.
 fn ends_with(b: [u8; 16], v: usize) -> bool
-    requires { ⌜ v ≤ 16 ⌝ }
+    requires { ⌜ v ≤ blockLength ⌝ }
     ensures { λ r. ⌜ r ≡ every v (λ k. eqb (getD b (16 - v + k) 0) v) ⌝ }
 {
     for k in 0..v {
-        if wide(b[16 - v + k]) != v {
+        if wide(b[lengths::BLOCK - v + k]) != v {
             return false;
         }
     }
@@ -25,11 +30,11 @@ fn ends_with(b: [u8; 16], v: usize) -> bool
 pub fn padding(b: [u8; 16]) -> usize
     ensures { λ r. ⌜ r ≡ cond (endsPadded b) (lastByte b) 0 ⌝ }
 {
-    let v = wide(b[15]);
+    let v = wide(b[LAST]);
     if v == 0 {
         return 0;
     }
-    if v > 16 {
+    if v > lengths::BLOCK {
         return 0;
     }
     if ends_with(b, v) { v } else { 0 }

@@ -1,5 +1,4 @@
 -- The answers of the builder, case by case. The cases exclude each other and leave none out.
--- Assumes nothing.
 use mathlib.Core.Path.{_≡_, refl, sym, ap, ap₂, _∙_}
 use mathlib.Core.Bool.{Bool, true, false, not}
 use mathlib.Core.List.{List, [], _∷_, _++_}
@@ -11,7 +10,7 @@ use lib.Seq.{length-take-le}
 use Rattle.lists.specs.Refusals.{first}
 use Rattle.lists.proofs.RefusalLaws.{Clear}
 use Rattle.cipher.specs.KeySize.{rounds, sizeOfKey}
-use Rattle.cipher.specs.Schedule.{schedule}
+use Rattle.cipher.specs.Lea.{keyRows}
 use Rattle.cipher.specs.Book.{roundPart, bookRound}
 use Rattle.cipher.proofs.KeySizeLaws.{rounds-more}
 use Rattle.cipher.specs.Chain.{Chain, roundCodings, chainTests}
@@ -86,20 +85,20 @@ module _ (key ch out : List ℕ) (len : KeySize → ℕ) (part : KeySize → Lis
           let d : n - 0 ≡ len z = omega arith in
           ap (λ (k : ℕ). (0, x ++ drop k out)) d ∙ built-done h x p
 
--- the front of a buffer, as it is lent, and what is behind it
+-- the front of a buffer, as it is lent, and what is after it
 pub front-length : (n m : ℕ) (out : List ℕ) → n ≡ m → m ≤ length out → length (take (n - 0) out) ≡ m
 front-length n m out e h =
     let d : n - 0 ≡ m = omega arith in
     rw d (length-take-le m out h)
 
--- a round counted round
+-- a round number mod r
 pub round-below : (z : KeySize) (l r : ℕ) → r ≡ rounds z → l % r < rounds z
 round-below z l r e =
     let p = rounds-more z in
     rw e (mod-lt l (omega arith))
 
-pub round-is : (z : KeySize) (key ch x : List ℕ) (rows : List (List ℕ)) (l r : ℕ) → r ≡ rounds z → rows ≡ schedule z key
-    → x ≡ roundPart (roundCodings (rounds z) ch (l % r)) (getD rows (l % r) []) → x ≡ bookRound (rounds z) (schedule z key) ch (l % rounds z)
+pub round-is : (z : KeySize) (key ch x : List ℕ) (rows : List (List ℕ)) (l r : ℕ) → r ≡ rounds z → rows ≡ keyRows z key
+    → x ≡ roundPart (roundCodings (rounds z) ch (l % r)) (getD rows (l % r) []) → x ≡ bookRound (rounds z) (keyRows z key) ch (l % rounds z)
 unfolding bookRound
 round-is z key ch x rows l r er es e =
     e ∙ ap₂ (λ (q : ℕ) (t : List (List ℕ)). roundPart (roundCodings (rounds z) ch (l % q)) (getD t (l % q) [])) er es

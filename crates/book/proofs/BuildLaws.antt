@@ -1,5 +1,4 @@
 -- The tables that the builder makes from inverted codings are the tables of the book.
--- Assumes nothing.
 use mathlib.Core.Path.{_≡_, refl, sym, ap, ap₂, _∙_}
 use mathlib.Core.List.{List, _++_}
 use Prim.Native.Nat.{ℕ, zero, suc, _+_, _-_, _*_, _/_, _%_, _≤_, _<_}
@@ -27,9 +26,9 @@ use Rattle.cipher.specs.Book.{addPart, turnPart, roundPart, foldPart, groupPart
 use Rattle.cipher.proofs.Permutation.{decode-lt}
 use Rattle.cipher.proofs.InverseLaws.{length-inverted, inverted-at}
 use Rattle.cipher.proofs.TableLaws.{add-rows, turn-rows, fold-rows}
-use Rattle.entries.specs.Rows.{sumRow, sumTable, xorRow, xorTable}
-use Rattle.entries.specs.Made.{RoundBytes, RoundReady, codingsOf, keyedBy, summands, sumEntries, madeAdd, upperPart, lowerPart, upperParts, lowerParts, madeTurn, madeFold}
-use Rattle.entries.proofs.MadeLaws.{length-add, length-turn, length-fold}
+use Rattle.table_maker.specs.Rows.{sumRow, sumTable, xorRow, xorTable}
+use Rattle.table_maker.specs.Made.{RoundBytes, RoundReady, codingsOf, keyedBy, summands, sumEntries, madeAdd, upperPart, lowerPart, upperParts, lowerParts, madeTurn, madeFold}
+use Rattle.table_maker.proofs.MadeLaws.{length-add, length-turn, length-fold}
 
 -- ---- tables by their entries
 
@@ -245,7 +244,7 @@ adds-length x s R K e = ap length e ∙ length-chunks (madeAdd s R K) 512 (lengt
 pub turns-length : (x s S : List ℕ) → x ≡ chunks 24 (madeTurn s S) → length x ≡ 6144
 turns-length x s S e = ap length e ∙ length-chunks (madeTurn s S) 256 (length-turn s S) 24
 
--- x written in front of out, and y behind it
+-- x written in front of out, and y after it
 module _ (x y out : List ℕ) (m n : ℕ) (room : length out ≡ m + n) (lx : length x ≡ m) where
   pub second-length : length (take n (drop m (x ++ drop m out))) ≡ n
   second-length =

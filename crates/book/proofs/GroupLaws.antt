@@ -1,5 +1,4 @@
 -- The start and the three groups as the builder puts them together.
--- Assumes nothing.
 use mathlib.Core.Path.{_≡_, refl, sym, ap, ap₂, _∙_}
 use mathlib.Core.List.{List, [], _++_}
 use Prim.Native.Nat.{ℕ, _+_, _*_, _/_, _%_, _≤_, _<_}
@@ -16,8 +15,8 @@ use Rattle.lists.proofs.PartLaws.{grown-part, grown-whole}
 use Rattle.cipher.specs.Coding.{FirstPermutations, setOf, coded, inverted}
 use Rattle.cipher.specs.Book.{groupPart}
 use Rattle.cipher.proofs.InverseLaws.{codedByte, coded-bytes}
-use Rattle.entries.specs.Made.{madeFold, threeKeys}
-use Rattle.entries.proofs.MadeLaws.{length-fold}
+use Rattle.table_maker.specs.Made.{madeFold, threeKeys}
+use Rattle.table_maker.proofs.MadeLaws.{length-fold}
 use Rattle.book.proofs.BuildLaws.{group-is}
 
 -- ---- the start

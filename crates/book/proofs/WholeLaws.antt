@@ -1,5 +1,4 @@
 -- The start, the groups and the rounds put together are the book.
--- Assumes nothing.
 use mathlib.Core.Path.{_≡_, refl, sym, ap, ap₂, _∙_}
 use mathlib.Core.List.{List, [], _++_, append-assoc}
 use Prim.Native.Nat.{ℕ, zero, suc, _+_, _-_, _*_, _≤_, _<_}
@@ -20,7 +19,7 @@ use Rattle.cipher.specs.Chain.{Chain, roundCodings, chainSet, messageSet}
 use Rattle.cipher.specs.Book.{startPart, groupPart, groupKey, bookGroup, bookRound, bookOf}
 use Rattle.cipher.proofs.BookLaw.{group-size, round-size}
 use Rattle.cipher.specs.declared.size.KeySize.{KeySize}
-use Rattle.entries.specs.Made.{threeKeys}
+use Rattle.table_maker.specs.Made.{threeKeys}
 use Rattle.book.proofs.BuildLaws.{sets-permute}
 
 -- set r of a valid chain, from its place on
@@ -43,8 +42,8 @@ rounds-length x r rows ch e =
     ap length e ∙ length-chunks (bookRound r rows ch) 18432 (λ l. round-size (roundCodings r ch l) (getD rows l [])) r
 
 -- set 0, from its place on
-pub behind : (ch : List ℕ) → 1024 ≤ length ch → 512 ≤ length (take (length ch - 512) (drop 512 ch))
-behind ch h =
+pub after-first : (ch : List ℕ) → 1024 ≤ length ch → 512 ≤ length (take (length ch - 512) (drop 512 ch))
+after-first ch h =
     let e : length (take (length ch - 512) (drop 512 ch)) ≡ length ch - 512 = ap length (part-end ch 512) ∙ length-drop 512 ch in
     omega arith
 

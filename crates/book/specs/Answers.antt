@@ -1,14 +1,14 @@
 -- What the builder answers (document 01, "Book" and "Refusals from the input"): the number of a refusal and the buffer as it
 -- was, or 0 and what was asked for, then what the buffer held before.
--- Assumes nothing.
 use mathlib.Core.List.{List, _++_}
 use Prim.Native.Nat.{ℕ, _%_}
 use lib.ListN.{drop}
 use Rattle.lists.specs.Refusals.{first}
 use Rattle.cipher.specs.KeySize.{rounds, bookLength}
-use Rattle.cipher.specs.Schedule.{schedule}
+use Rattle.cipher.specs.Lea.{keyRows}
 use Rattle.cipher.specs.Chain.{chainTests}
-use Rattle.cipher.specs.Book.{bookOf, bookRound, roundLength}
+use Rattle.cipher.specs.Book.{bookOf, bookRound}
+use Rattle.cipher.specs.Lengths.{roundLength}
 use Rattle.cipher.specs.Answers.{keyTests, keySize, roomTests}
 use Rattle.cipher.specs.declared.size.KeySize.{KeySize}
 
@@ -20,8 +20,8 @@ builtInto key ch out len part =
 
 -- the book
 abbrev pub buildAnswer : List ℕ → List ℕ → List ℕ → ℕ × List ℕ
-buildAnswer key ch out = builtInto key ch out bookLength (λ z. bookOf (rounds z) (schedule z key) ch)
+buildAnswer key ch out = builtInto key ch out bookLength (λ z. bookOf (rounds z) (keyRows z key) ch)
 
--- the tables of round l, counted round
-abbrev pub roundAnswer : List ℕ → List ℕ → ℕ → List ℕ → ℕ × List ℕ
-roundAnswer key ch l out = builtInto key ch out (λ z. roundLength) (λ z. bookRound (rounds z) (schedule z key) ch (l % rounds z))
+-- the tables of round l mod r
+abbrev pub buildRoundAnswer : List ℕ → List ℕ → ℕ → List ℕ → ℕ × List ℕ
+buildRoundAnswer key ch l out = builtInto key ch out (λ z. roundLength) (λ z. bookRound (rounds z) (keyRows z key) ch (l % rounds z))

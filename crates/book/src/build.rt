@@ -6,39 +6,37 @@ ghost use Rattle.cipher.specs.KeySize as S;
 ghost use Rattle.cipher.specs.Refusal.{outcomeOf};
 ghost use Rattle.cipher.specs.Chain.{Chain};
 ghost use Rattle.cipher.specs.Book.{bookOf};
-ghost use Rattle.book.specs.Answers.{buildAnswer, roundAnswer};
+ghost use Rattle.book.specs.Answers.{buildAnswer, buildRoundAnswer};
 use crate::groups::groups;
 use crate::groups::start;
 use crate::rounds::round_at;
 use crate::rounds::round_parts;
 use cipher::chain::check_sized;
 use cipher::cmac::subkeys;
+use cipher::lengths;
 use cipher::refusal::Outcome;
 use cipher::refusal::Refusal;
-use cipher::schedule::schedule;
+use cipher::schedule::key_rows;
 use cipher::size::KeySize;
 use cipher::size::SizeFound;
-
-// Where the rounds of a book begin.
-const ROUNDS: usize = KeySize::START + 3 * KeySize::GROUP;
 
 // The book of a valid chain, into a buffer of its length.
 fn fill(size: KeySize, chain: &[u8], rows: [[u32; 6]; 32], out: &mut [u8])
     requires { ⌜ Chain size (now chain) × (length (now out) ≡ S.bookLength size) ⌝ }
     ensures { λ _. ⌜ now (out .exit) ≡ bookOf (S.rounds size) rows (now (chain .entry)) ⌝ }
 {
-    let last = KeySize::SET * (size.rounds() + 1);
+    let last = lengths::SET * (size.rounds() + 1);
     let keys = subkeys(rows, size);
     let end = size.book_len();
-    start(&chain[last..], &mut out[0..KeySize::START]);
+    start(&chain[last..], &mut out[0..lengths::START]);
     groups(
         &chain[last..],
         chain,
-        &chain[KeySize::SET..],
+        &chain[lengths::SET..],
         keys,
-        &mut out[KeySize::START..ROUNDS],
+        &mut out[lengths::START..lengths::ROUNDS],
     );
-    round_parts(size, chain, rows, &mut out[ROUNDS..end]);
+    round_parts(size, chain, rows, &mut out[lengths::ROUNDS..end]);
 }
 
 // The book of a key and a chain, into the front of out.
@@ -56,14 +54,14 @@ pub fn build(key: &[u8], chain: &[u8], out: &mut [u8]) -> Outcome
     if out.len() < end {
         return Outcome::Refused(Refusal::ShortBuffer);
     }
-    let rows = schedule(size, key);
+    let rows = key_rows(size, key);
     fill(size, chain, rows, &mut out[0..end]);
     Outcome::Done
 }
 
 // The tables of round l of that book, l taken mod its rounds, into the front of out.
 pub fn build_round(key: &[u8], chain: &[u8], l: usize, out: &mut [u8]) -> Outcome
-    ensures { λ r. ⌜ (outcomeOf r, now (out .exit)) ≡ roundAnswer (now (key .entry)) (now (chain .entry)) l (now (out .entry)) ⌝ }
+    ensures { λ r. ⌜ (outcomeOf r, now (out .exit)) ≡ buildRoundAnswer (now (key .entry)) (now (chain .entry)) l (now (out .entry)) ⌝ }
 {
     let SizeFound::Found(size) = KeySize::of_key_len(key.len()) else {
         return Outcome::Refused(Refusal::KeyLength);
@@ -72,17 +70,17 @@ pub fn build_round(key: &[u8], chain: &[u8], l: usize, out: &mut [u8]) -> Outcom
     if checked.number() != 0 {
         return checked;
     }
-    if out.len() < KeySize::ROUND_TABLES {
+    if out.len() < lengths::ROUND_TABLES {
         return Outcome::Refused(Refusal::ShortBuffer);
     }
-    let rows = schedule(size, key);
+    let rows = key_rows(size, key);
     let at = l % size.rounds();
     round_at(
         size,
         chain,
         rows[at],
         at,
-        &mut out[0..KeySize::ROUND_TABLES],
+        &mut out[0..lengths::ROUND_TABLES],
     );
     Outcome::Done
 }

@@ -1,6 +1,5 @@
 -- The answers of the operations on a key and a block, case by case. The cases exclude each other and leave none out, so
 -- each refusal is given exactly under its condition.
--- Assumes nothing.
 use mathlib.Core.Path.{_≡_, refl, ap, _∙_}
 use mathlib.Core.Bool.{Bool, true, false, cond, not, _||_}
 use mathlib.Core.List.{List, [], _∷_, _++_}

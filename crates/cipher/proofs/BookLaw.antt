@@ -1,6 +1,5 @@
 -- The book of rows and a chain holds at each offset the byte that it should; and what is said of these bytes leaves none
 -- of them open: it is said of one list alone.
--- Assumes nothing.
 use mathlib.Core.Path.{_≡_, refl, sym, ap, _∙_}
 use mathlib.Core.List.{List, [], _++_}
 use Prim.Native.Nat.{ℕ, _+_, _-_, _*_, _/_, _%_, _≤_, _<_}
@@ -15,7 +14,8 @@ use Rattle.cipher.specs.Lea.{firstRounds}
 use Rattle.cipher.specs.Coding.{Set, ofHalves, coded}
 use Rattle.cipher.specs.Tables.{RoundCodings, RoundTables, FoldTables, addTable, turnTable, foldTable, addAt, turnAt}
 use Rattle.cipher.specs.Chain.{messageSet, chainSet, roundCodings}
-use Rattle.cipher.specs.Book.{startPart, addPart, turnPart, roundPart, foldPart, groupPart, groupKey, bookGroup, bookRound, bookOf, startLength, groupLength, roundLength, roundsStart, groupAt, roundAt, Book}
+use Rattle.cipher.specs.Book.{startPart, addPart, turnPart, roundPart, foldPart, groupPart, groupKey, bookGroup, bookRound, bookOf, groupAt, roundAt, Book}
+use Rattle.cipher.specs.Lengths.{startLength, groupLength, roundLength, roundsStart}
 
 -- ---- lengths
 

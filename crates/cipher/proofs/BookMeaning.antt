@@ -1,6 +1,5 @@
 -- What a book does, decoded: its start is the zero block, its rounds are LEA's, its folds are xors; for any rows of round keys,
 -- and any valid chain.
--- Assumes nothing.
 use mathlib.Core.Path.{_≡_, refl, ap, _∙_}
 use mathlib.Core.List.{List}
 use Prim.Native.Nat.{ℕ, zero, suc, _≤_, _<_}

@@ -1,7 +1,6 @@
 -- The refusals of a lone set and of a chain, case by case (document 01, "Refusals from the input", numbers 2 to 5): each is
 -- given where its rule is broken and those of the lower numbers hold. The cases exclude each other and leave none out. What
--- stands behind these tests, `ts`, is reached exactly by a valid set, or a valid chain.
--- Assumes nothing.
+-- stands after these tests, `ts`, is reached exactly by a valid set, or a valid chain.
 use mathlib.Core.Path.{_≡_, refl, ap, _∙_}
 use mathlib.Core.Bool.{Bool, true, false, not}
 use mathlib.Core.List.{List, [], _++_}
@@ -12,7 +11,8 @@ use lib.ListN.{length}
 use Rattle.lists.specs.Refusals.{first}
 use Rattle.cipher.specs.KeySize.{rounds, keyLength, chainLength}
 use Rattle.cipher.specs.Coding.{Permutations, setOf}
-use Rattle.cipher.specs.Chain.{setLength, CodingRule, WordRule, MaskRule, Chain, LoneSet, arePermutations, codingRuleHolds, wordRuleHolds, maskRuleHolds, setTests, chainTests}
+use Rattle.cipher.specs.Chain.{CodingRule, WordRule, MaskRule, Chain, LoneSet, arePermutations, codingRuleHolds, wordRuleHolds, maskRuleHolds, setTests, chainTests}
+use Rattle.cipher.specs.Lengths.{setLength}
 use Rattle.cipher.specs.Answers.{setChecked, chainChecked}
 use Rattle.cipher.specs.declared.size.KeySize.{KeySize}
 use Rattle.cipher.proofs.KeySizeLaws.{found-none, size-of-key}

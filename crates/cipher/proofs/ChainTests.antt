@@ -1,6 +1,5 @@
 -- The tests of sets and chains say what they should, both ways: each is passed exactly where its rule holds, so the tests
 -- 2 to 5 let through the valid chains and no others.
--- Assumes nothing.
 use mathlib.Core.Path.{_≡_, refl, sym, ap, _∙_, subst}
 use mathlib.Core.Bool.{Bool, true, false, not, cond, _&&_}
 use mathlib.Core.List.{List}
@@ -16,7 +15,8 @@ use Rattle.lists.proofs.EveryLaws.{and-true, true-and, every-all, all-every}
 use Rattle.lists.proofs.RefusalLaws.{Clear}
 use Rattle.cipher.specs.KeySize.{rounds, chainLength}
 use Rattle.cipher.specs.Coding.{OneToOne, Permutation, Permutations, codingAt, setOf}
-use Rattle.cipher.specs.Chain.{setLength, roundBytes, maskAt, maskIn, roundCodings, CodingRule, WordRule, MaskRule, Chain, LoneSet, isOneToOne, arePermutations, codingRuleHolds, wordRuleHolds, maskLimit, maskRuleHolds, setTests, chainTests}
+use Rattle.cipher.specs.Chain.{roundBytes, maskAt, maskIn, roundCodings, CodingRule, WordRule, MaskRule, Chain, LoneSet, isOneToOne, arePermutations, codingRuleHolds, wordRuleHolds, maskLimit, maskRuleHolds, setTests, chainTests}
+use Rattle.cipher.specs.Lengths.{setLength}
 use Rattle.cipher.specs.declared.size.KeySize.{KeySize}
 use Rattle.cipher.proofs.CodingLaws.{Agree}
 use Rattle.cipher.proofs.RoundLaw.{ValidRound}
@@ -104,7 +104,7 @@ coding-in ch l k = λ i v. at v i
         let e : setLength * suc l + (16 * k + v) ≡ 16 * (32 * suc l + k) + v = omega arith in
         getD-drop (setLength * suc l) ch (16 * k + v) 0 ∙ ap (λ (n : ℕ). getD ch n 0) e
 
--- byte k of word 0 of set l, and of word 3 of the set behind it
+-- byte k of word 0 of set l, and of word 3 of the set after it
 abbrev front : List ℕ → ℕ → ℕ → ℕ
 front ch l k = getD (drop (setLength * suc l) ch) k 0
 

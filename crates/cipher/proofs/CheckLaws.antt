@@ -1,6 +1,5 @@
 -- Laws for the checks of sets and chains: what a turn of a loop, or a rule that was found broken or kept, says of the tests;
 -- and what the number that a check gives says of the set or the chain.
--- Assumes nothing.
 use mathlib.Core.Path.{_≡_, refl, sym, ap, _∙_}
 use mathlib.Core.Bool.{Bool, true, false, not, cond, _&&_}
 use mathlib.Core.List.{List, [], _∷_, _++_}
@@ -18,7 +17,8 @@ use Rattle.lists.proofs.RefusalLaws.{Clear}
 use Rattle.lists.proofs.TabulationLaws.{getD-replicate}
 use Rattle.lists.proofs.PartLaws.{part-end}
 use Rattle.cipher.specs.KeySize.{rounds, chainLength}
-use Rattle.cipher.specs.Chain.{Chain, LoneSet, setLength, isOneToOne, arePermutations, codingRuleHolds, wordKept, wordRuleHolds, maskRuleHolds, setTests, chainTests}
+use Rattle.cipher.specs.Chain.{Chain, LoneSet, isOneToOne, arePermutations, codingRuleHolds, wordKept, wordRuleHolds, maskRuleHolds, setTests, chainTests}
+use Rattle.cipher.specs.Lengths.{setLength}
 use Rattle.cipher.specs.declared.size.KeySize.{KeySize}
 use Rattle.cipher.proofs.ChainTests.{set-tested, chain-tested}
 
@@ -160,7 +160,7 @@ told-clear (t ∷ ts) n e = go (t .0) refl (told-clear ts (n .1)) e
     go false d k h = (d, k h)
 
 module _ {A : Type 0} (us : List (Bool × ℕ)) (refuse : ℕ → A) (go : A) where
-  -- a refusal is the same where other tests come behind
+  -- a refusal is the same where other tests come after
   pub told-refused : (ts : List (Bool × ℕ)) (q : ℕ) → 0 < q → first ts (λ n. n) 0 ≡ q → first (ts ++ us) refuse go ≡ refuse q
   unfolding first
   told-refused [] q h e = absurd (omega arith)

@@ -1,5 +1,4 @@
 -- Laws of doubling, by the cases of the code; a double is a block.
--- Assumes nothing.
 use mathlib.Core.Path.{_≡_, ap, _∙_}
 use mathlib.Core.Bool.{Bool, true, false, cond}
 use Prim.Native.Nat.{ℕ, _+_, _≤_, _<_}
@@ -22,7 +21,7 @@ use Rattle.cipher.specs.Cmac.{shifted, double}
 abbrev pub rule : List ℕ → ℕ → ℕ
 rule b k = shifted (getD b k 0) (getD b (k + 1) 0)
 
--- a byte stored behind them
+-- a byte stored after them
 last : (b d : List ℕ) (v : ℕ) → d ≡ tab 15 (rule b) ++ replicate 1 0 → set d 15 v ≡ tab 15 (rule b) ++ (v ∷ [])
 last b d v e =
     ap (λ (l : List ℕ). set l 15 v) e

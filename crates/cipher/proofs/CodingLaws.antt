@@ -1,6 +1,5 @@
 -- Laws of blocks by their half bytes: a block is made of them, xor goes through them, coding and decoding by a set of
 -- permutations undo each other, and the words of a block are its half bytes joined by eights.
--- Assumes nothing.
 use mathlib.Core.Path.{_≡_, refl}
 use mathlib.Core.List.{List, [], _∷_}
 use Prim.Native.Nat.{ℕ, zero, suc, _+_, _*_, _/_, _%_, _<_}

@@ -1,5 +1,4 @@
 -- A fold by tables, decoded, is the xor of the two blocks decoded and the key block.
--- Assumes nothing.
 use mathlib.Core.Path.{_≡_, ap, _∙_}
 use mathlib.Core.List.{List}
 use Prim.Native.Nat.{ℕ, _+_, _*_, _/_, _%_, _<_}

@@ -1,5 +1,4 @@
 -- The table of images: how its rows make it, and that a block coded by it is the block coded by the set.
--- Assumes nothing.
 use mathlib.Core.Path.{_≡_, sym, ap, ap₂, _∙_}
 use mathlib.Core.List.{List}
 use Prim.Native.Nat.{ℕ, _+_, _*_, _/_, _%_, _<_}

@@ -1,5 +1,4 @@
 -- Codings inverted once: to decode by a set is to code by the inverted set. And coding a block byte by byte, as a loop does.
--- Assumes nothing.
 use mathlib.Core.Path.{_≡_, sym, ap, ap₂, _∙_, subst}
 use mathlib.Core.List.{List}
 use Prim.Native.Nat.{ℕ, _+_, _*_, _/_, _%_, _<_}

@@ -1,5 +1,4 @@
 -- Laws of the key sizes: the rounds are a multiple of four and at most 32; a length tells its size, and a size its length.
--- Assumes nothing.
 use mathlib.Core.Path.{_≡_, refl, _∙_}
 use mathlib.Core.Bool.{Bool, true, false, cond, not, _||_}
 use Prim.Native.Nat.{ℕ, _*_, _/_, _≤_}

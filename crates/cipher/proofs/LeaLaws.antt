@@ -1,6 +1,5 @@
 -- Laws of LEA over any rows of words: a round is undone, so are the first n rounds, and deciphering and enciphering a
 -- block undo each other, both ways round.
--- Assumes nothing.
 use mathlib.Core.Path.{_≡_, refl, sym, ap, ap₂, _∙_}
 use Prim.Native.Nat.{ℕ, zero, suc, _+_, _*_, _/_, _%_, _^_, _≤_, _<_}
 use native.Mathlib.Numerals.{add-one}
@@ -16,11 +15,11 @@ use Rattle.lists.proofs.BlockLaws.{xor-at}
 use Rattle.lists.proofs.TabulationLaws.{tab-is}
 use Rattle.cipher.specs.Word.{add, sub, xor, turnLeft, turnRight, word, bytesOf, wordAt, xorWords}
 use Rattle.cipher.specs.KeySize.{rounds}
-use Rattle.cipher.specs.Schedule.{words4, schedule}
-use Rattle.cipher.specs.Lea.{keyed, unkeyed, round, unround, forward, backward, bytes, firstRounds, undoneRounds, encipher, decipher}
+use Rattle.cipher.specs.Schedule.{words4}
+use Rattle.cipher.specs.Lea.{keyed, unkeyed, round, unround, forward, backward, bytes, firstRounds, undoneRounds, encipher, decipher, keyRows}
 use Rattle.cipher.specs.declared.size.KeySize.{KeySize}
 use Rattle.cipher.proofs.WordLaws.{right-left, left-right, add-word, sub-word, left-word, right-word, xor-word, sub-add, add-sub, xor-xor, bytes-word, word-bytes, word-xor}
-use Rattle.cipher.proofs.ScheduleLaws.{RowsOfWords, wordAt-word, schedule-words}
+use Rattle.cipher.proofs.ScheduleLaws.{RowsOfWords, wordAt-word, key-words}
 
 -- four words
 pub data Four : List ℕ → Type 0 where
@@ -219,10 +218,10 @@ module _ (rows : List (List ℕ)) (hr : RowsOfWords rows) (n : ℕ) {b : List �
 -- under a key: deciphering undoes enciphering, and the other way round
 module _ (z : KeySize) (key : List ℕ) {b : List ℕ} (hk : Bytes key) (h : Block b) where
   pub decipher-encipher : decipher z key (encipher z key b) ≡ b
-  decipher-encipher = rounds-undone (schedule z key) (schedule-words z key hk) (rounds z) h
+  decipher-encipher = rounds-undone (keyRows z key) (key-words z key hk) (rounds z) h
 
   pub encipher-decipher : encipher z key (decipher z key b) ≡ b
-  encipher-decipher = undone-rounds (schedule z key) (schedule-words z key hk) (rounds z) h
+  encipher-decipher = undone-rounds (keyRows z key) (key-words z key hk) (rounds z) h
 
 -- ---- one turn of a loop more: a round, or four
 

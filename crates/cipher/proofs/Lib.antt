@@ -5,7 +5,7 @@ pub mod ScheduleLaws
 pub mod Schedule32
 pub mod LeaLaws
 pub mod CmacLaws
-pub mod ChainingLaws
+pub mod CbcMacLaws
 pub mod Permutation
 pub mod CodingLaws
 pub mod InverseLaws

@@ -1,6 +1,5 @@
 -- Laws of one-to-one functions on the first numbers: there is none into fewer (the pigeonhole principle); so a permutation
 -- has every value, and decoding and coding undo each other, both ways round.
--- Assumes nothing.
 use mathlib.Core.Path.{_≡_, refl, sym, ap, ap₂, _∙_}
 use mathlib.Core.Logic.{_≢_, _⊎_, inl, inr}
 use mathlib.Core.Bool.{Bool, true, false, cond}

@@ -1,5 +1,4 @@
 -- A sum by half bytes, lowest first, with the carry that goes from each to the next.
--- Assumes nothing.
 use mathlib.Core.Path.{_≡_, refl}
 use Prim.Native.Nat.{ℕ, zero, suc, _+_, _/_, _%_, _<_}
 use native.Mathlib.Nat.{add-zero}

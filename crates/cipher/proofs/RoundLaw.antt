@@ -1,6 +1,5 @@
 -- One round of tables, decoded, is one round of LEA; the tables are those of any permutations, any masks that are bits and
 -- any row of round keys.
--- Assumes nothing.
 use mathlib.Core.Path.{_≡_, sym, ap, _∙_}
 use mathlib.Core.List.{List, [], _∷_}
 use Prim.Native.Nat.{ℕ, zero, suc, _+_, _*_, _/_, _%_, _^_, _<_}

@@ -1,6 +1,5 @@
 -- n rounds of tables, decoded by set n, are the first n rounds of LEA on the bytes decoded by set 0 (document 01, "The model
 -- session of demand 3", its paragraph on n rounds): for any rows of round keys and any bytes.
--- Assumes nothing.
 use mathlib.Core.Path.{_≡_, refl, sym, ap, _∙_}
 use mathlib.Core.List.{List, []}
 use Prim.Native.Nat.{ℕ, zero, suc, _≤_, _<_}

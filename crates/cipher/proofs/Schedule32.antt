@@ -1,5 +1,4 @@
 -- The schedule of a key of 32 bytes, its words in a queue: the words in the order in which the steps take them.
--- Assumes nothing.
 use mathlib.Core.Path.{_≡_, refl, sym, ap, _∙_}
 use mathlib.Core.Logic.{_⊎_, inl, inr}
 use Prim.Native.Nat.{ℕ, zero, suc, _+_, _*_, _%_, _≤_, _<_}
@@ -118,8 +117,8 @@ module _ (i : ℕ) (d t₀ q r : List ℕ) (size : length t₀ ≡ 8) (ed : d �
       ∙ (λ z. mixed-at 0 (omega arith) z ∷ mixed-at 1 (omega arith) z ∷ mixed-at 2 (omega arith) z ∷ mixed-at 3 (omega arith) z ∷ mixed-at 4 (omega arith) z ∷ mixed-at 5 (omega arith) z ∷ [])
 
   -- a word of the row, at its place of the next step
-  behind : (k : ℕ) → getD (stepped step32 (i + 1) t₀) (place i k) 0 ≡ getD (stepped step32 (i + 1) t₀) (place (i + 1) (k + 2)) 0
-  behind k = ap (λ (n : ℕ). getD (stepped step32 (i + 1) t₀) n 0) (place-again i k)
+  after : (k : ℕ) → getD (stepped step32 (i + 1) t₀) (place i k) 0 ≡ getD (stepped step32 (i + 1) t₀) (place (i + 1) (k + 2)) 0
+  after k = ap (λ (n : ℕ). getD (stepped step32 (i + 1) t₀) n 0) (place-again i k)
 
   ahead : (k : ℕ) → k < 2 → getD (stepped step32 i t₀) (place i (k + 6)) 0 ≡ getD (stepped step32 (i + 1) t₀) (place (i + 1) k) 0
   ahead k h = kept-at (k + 6) (omega arith) (omega arith) ∙ ap (λ (n : ℕ). getD (stepped step32 (i + 1) t₀) n 0) (place-next i k)
@@ -128,4 +127,4 @@ module _ (i : ℕ) (d t₀ q r : List ℕ) (size : length t₀ ≡ 8) (ed : d �
   unfolding queued row32
   queue-more =
       (λ z. getD (eq z) 6 0 ∷ getD (eq z) 7 0 ∷ getD (row-front z) 0 0 ∷ getD (row-front z) 1 0 ∷ getD (row-front z) 2 0 ∷ getD (row-front z) 3 0 ∷ getD (row-front z) 4 0 ∷ getD (row-front z) 5 0 ∷ [])
-      ∙ (λ z. ahead 0 (omega arith) z ∷ ahead 1 (omega arith) z ∷ behind 0 z ∷ behind 1 z ∷ behind 2 z ∷ behind 3 z ∷ behind 4 z ∷ behind 5 z ∷ [])
+      ∙ (λ z. ahead 0 (omega arith) z ∷ ahead 1 (omega arith) z ∷ after 0 z ∷ after 1 z ∷ after 2 z ∷ after 3 z ∷ after 4 z ∷ after 5 z ∷ [])

@@ -1,6 +1,5 @@
 -- Laws of the key schedule: one step and one row more in a loop that fills the rows, that every round key is a word, and
 -- the queue of δ that the code takes its steps' constants from.
--- Assumes nothing.
 use mathlib.Core.Path.{_≡_, refl, sym, ap, ap₂, _∙_}
 use Prim.Native.Nat.{ℕ, zero, suc, _+_, _-_, _%_, _^_, _<_}
 use native.Mathlib.Nat.{zero-add, add-mod-right}
@@ -13,6 +12,7 @@ use Rattle.lists.specs.Blocks.{Below, Bytes}
 use Rattle.lists.specs.Tabulation.{tab}
 use Rattle.lists.proofs.PartLaws.{fill-more}
 use Rattle.lists.proofs.TabulationLaws.{getD-tab, tab-ext}
+use Rattle.cipher.specs.Lea.{keyRows}
 use Rattle.cipher.specs.Word.{add, rol, word, wordAt}
 use Rattle.cipher.specs.Schedule.{delta, deltaOf, turns, mixed, mixedFour, mixedRow, step16, row16, step24, row24, place, mixAt, step32, row32, words4, words6, words8, stepped, rowsOf, blank, filled, schedule}
 use Rattle.cipher.specs.declared.size.KeySize.{KeySize}
@@ -155,11 +155,11 @@ module _ (step row : ℕ → List ℕ → List ℕ) (hs : (i : ℕ) (t : List �
   filled-words : (n : ℕ) → RowsOfWords (filled step row n t)
   filled-words n = rows-below (rows-joined (rowsOf-words n) (rows-same (32 - n)))
 
-pub schedule-words : (z : KeySize) (key : List ℕ) → Bytes key → RowsOfWords (schedule z key)
+pub key-words : (z : KeySize) (key : List ℕ) → Bytes key → RowsOfWords (keyRows z key)
 unfolding schedule
-schedule-words Bytes16 key h = filled-words step16 row16 (λ i t w. mixedFour-words (deltaOf 4 i) i t) row16-words (words4 key) (words4-words key h) 24
-schedule-words Bytes24 key h = filled-words step24 row24 (λ i t w. mixedRow-words (deltaOf 6 i) i t) (λ i t w. w) (words6 key) (words6-words key h) 28
-schedule-words Bytes32 key h = filled-words step32 row32 step32-words row32-words (words8 key) (words8-words key h) 32
+key-words Bytes16 key h = filled-words step16 row16 (λ i t w. mixedFour-words (deltaOf 4 i) i t) row16-words (words4 key) (words4-words key h) 24
+key-words Bytes24 key h = filled-words step24 row24 (λ i t w. mixedRow-words (deltaOf 6 i) i t) (λ i t w. w) (words6 key) (words6-words key h) 28
+key-words Bytes32 key h = filled-words step32 row32 step32-words row32-words (words8 key) (words8-words key h) 32
 
 -- ---- the queue of δ
 
@@ -193,7 +193,7 @@ delta-back v i =
     ∙ ap (λ (n : ℕ). rol (i + suc v) (getD delta n 0)) (sym (add-mod-right i (suc v)))
     ∙ ap (turnedDelta (suc v)) e
 
--- the front put behind, turned
+-- the front put at the end, turned
 pub deltas-more : (v i x : ℕ) (d : List ℕ) → d ≡ deltas (suc v) i → x ≡ rol (suc v) (getD d 0 0)
     → tab v (λ k. getD d (suc k) 0) ++ (x ∷ []) ≡ deltas (suc v) (i + 1)
 unfolding tab

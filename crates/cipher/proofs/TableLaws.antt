@@ -1,6 +1,5 @@
 -- Laws of single tables: the carry that an entry holds, how large an entry is, and each table as rows of sixteen, from codings
 -- inverted beforehand, as a builder fills it.
--- Assumes nothing.
 use mathlib.Core.Path.{_≡_, ap, _∙_}
 use mathlib.Core.Bool.{Bool, true, false, cond}
 use Prim.Native.Nat.{ℕ, zero, suc, _+_, _*_, _/_, _%_, _≤_, _<_}

@@ -1,6 +1,5 @@
 -- The half bytes of LEA's three rotations. A rotation is a cut of the word written twice, at bit 4q + 3 or 4q + 1; so
 -- each half byte comes from two neighbouring half bytes of the word.
--- Assumes nothing.
 use mathlib.Core.Path.{_≡_, sym, ap, ap₂, _∙_}
 use Prim.Native.Nat.{ℕ, zero, suc, _+_, _-_, _*_, _/_, _%_, _^_, _<_}
 use native.Mathlib.Decide.{decLt}

@@ -1,5 +1,4 @@
 -- Turns of a word to the left, one after the other, are one turn by the sum of their counts.
--- Assumes nothing.
 use mathlib.Core.Path.{_≡_, sym, ap, ap₂, _∙_, subst}
 use Prim.Native.Nat.{ℕ, zero, suc, _+_, _-_, _*_, _/_, _%_, _^_, _<_}
 use native.Mathlib.Nat.{mod-lt, mul-assoc, add-mul}

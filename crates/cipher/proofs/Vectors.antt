@@ -1,6 +1,5 @@
 -- The examples of document 001, appendix I: the three ciphertexts, by computation from the definitions. (The scan prints
 -- byte 8 of the second one wrong; docs/DECISIONS.md says how that is known.)
--- Assumes nothing.
 use mathlib.Core.Path.{_≡_, refl}
 use Prim.Native.Nat.{ℕ}
 use mathlib.Core.List.{List, [], _∷_}

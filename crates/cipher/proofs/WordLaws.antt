@@ -1,6 +1,5 @@
 -- Laws of the operations on words: shifts joined by an or are a rotation, a rotation is undone by the other, a sum by
 -- the difference, an xor by itself, and a word and its four bytes go into each other.
--- Assumes nothing.
 use mathlib.Core.Path.{_≡_, sym, ap, ap₂, _∙_, subst}
 use Prim.Native.Nat.{ℕ, zero, suc, _+_, _-_, _*_, _/_, _%_, _^_, _≤_, _<_}
 use native.Mathlib.Nat.{add-zero, mul-mod-left, mod-lt, mod-eq-of-lt}

@@ -1,23 +1,23 @@
 -- What the operations on a key and a block answer: the number of a refusal and zeros, or 0 and what was asked for. And what
 -- the checks of sets and chains answer: the number of a refusal, or 0.
--- Assumes nothing.
 use mathlib.Core.Bool.{Bool, cond, not, _||_}
 use mathlib.Core.List.{List, [], _∷_, _++_}
 use Prim.Native.Nat.{ℕ, _%_}
 use lib.Dec.{eqb, leb, ltb}
 use lib.ListN.{length, getD}
-use Rattle.lists.specs.Blocks.{zeros}
+use Rattle.lists.specs.Blocks.{zeros, blockLength}
 use Rattle.lists.specs.Refusals.{first}
 use Rattle.cipher.specs.KeySize.{rounds, sizeOfKey}
+use Rattle.cipher.specs.Lengths.{longestCode}
 use Rattle.cipher.specs.Refusal.{outcomeOf}
-use Rattle.cipher.specs.Schedule.{schedule, blank}
-use Rattle.cipher.specs.Lea.{firstRounds, encipher, decipher}
+use Rattle.cipher.specs.Schedule.{blank}
+use Rattle.cipher.specs.Lea.{firstRounds, encipher, decipher, keyRows}
 use Rattle.cipher.specs.Chain.{setTests, chainTests}
 use Rattle.cipher.specs.declared.size.KeySize.{KeySize}
 use Rattle.cipher.specs.declared.size.KeySize.the-variants.{Bytes16, Bytes24, Bytes32}
 use Rattle.cipher.specs.declared.size.SizeFound.{SizeFound}
 use Rattle.cipher.specs.declared.size.SizeFound.the-variants.{Found, Unknown}
-use Rattle.cipher.specs.declared.lea.BlockAnswer.{BlockAnswer}
+use Rattle.cipher.specs.declared.answer.BlockAnswer.{BlockAnswer}
 use Rattle.cipher.specs.declared.lea.RowAnswer.{RowAnswer}
 
 -- an answer as a number and a value
@@ -35,11 +35,11 @@ abbrev pub keyTests : List ℕ → List (Bool × ℕ)
 keyTests key = keyLengthTests (length key)
 
 abbrev pub blockTests : List ℕ → List (Bool × ℕ)
-blockTests b = (not (eqb (length b) 16), 7) ∷ []
+blockTests b = (not (eqb (length b) blockLength), 7) ∷ []
 
 -- refusal 8 for what is sealed or opened: input that is empty, over 1,048,576 bytes, or not of whole blocks
 unfoldable pub badText : ℕ → Bool
-badText n = eqb n 0 || ltb 1048576 n || not (eqb (n % 16) 0)
+badText n = eqb n 0 || ltb longestCode n || not (eqb (n % blockLength) 0)
 
 abbrev pub textTests : List ℕ → List (Bool × ℕ)
 textTests t = (badText (length t), 8) ∷ []
@@ -67,11 +67,11 @@ decipherAnswer key b = onBlock key b (λ z. decipher z key b)
 
 -- the first n rounds of LEA, all of them where n is more
 abbrev pub roundsAnswer : List ℕ → ℕ → List ℕ → ℕ × List ℕ
-roundsAnswer key n b = onBlock key b (λ z. firstRounds (schedule z key) (cond (leb n (rounds z)) n (rounds z)) b)
+roundsAnswer key n b = onBlock key b (λ z. firstRounds (keyRows z key) (cond (leb n (rounds z)) n (rounds z)) b)
 
--- the round keys of round l, counted round
+-- the round keys of round l mod r
 abbrev pub rowAnswer : List ℕ → ℕ → ℕ × List ℕ
-rowAnswer key l = first (keyTests key) (λ n. (n, blank)) (0, getD (schedule (keySize key) key) (l % rounds (keySize key)) [])
+rowAnswer key l = first (keyTests key) (λ n. (n, blank)) (0, getD (keyRows (keySize key) key) (l % rounds (keySize key)) [])
 
 -- what the checks of a lone set, and of a chain for a key of n bytes, answer (document 01, "Refusals from the input")
 abbrev pub setChecked : List ℕ → ℕ

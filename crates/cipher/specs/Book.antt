@@ -1,12 +1,12 @@
 -- The book (01's term) of tables that rows of round keys and a chain make, and where each part of it stands (document 01,
 -- "Book"). All is said of any rows and any number r of rounds.
--- Assumes nothing.
 use mathlib.Core.Path.{_≡_}
 use mathlib.Core.List.{List, [], _++_}
 use Prim.Native.Nat.{ℕ, zero, suc, _+_, _*_, _/_, _%_, _<_}
 use lib.ListN.{length, getD, take, drop}
 use Rattle.lists.specs.Tabulation.{tab, chunks}
 use Rattle.lists.specs.Blocks.{zeros}
+use Rattle.cipher.specs.Lengths.{addLength, turnLength, foldLength, startLength, groupLength, roundLength, roundsStart}
 use Rattle.cipher.specs.Lea.{firstRounds}
 use Rattle.cipher.specs.Cmac.{subkey1, subkey2}
 use Rattle.cipher.specs.Coding.{Set, coded}
@@ -21,17 +21,17 @@ startPart r ch = coded (chainSet ch r) zeros
 
 -- add table p and turn table p of a round, p = 8i + j, and the round: all 24 of the first kind, then of the second
 unfoldable pub addPart : RoundCodings → List ℕ → ℕ → List ℕ
-addPart c k p = tab 512 (addTable c k (p / 8) (p % 8))
+addPart c k p = tab addLength (addTable c k (p / 8) (p % 8))
 
 unfoldable pub turnPart : RoundCodings → ℕ → List ℕ
-turnPart c p = tab 256 (turnTable c (p / 8) (p % 8))
+turnPart c p = tab turnLength (turnTable c (p / 8) (p % 8))
 
 unfoldable pub roundPart : RoundCodings → List ℕ → List ℕ
 roundPart c k = chunks 24 (addPart c k) ++ chunks 24 (turnPart c)
 
 -- fold table p of a group, p = 8w + j, and the group of 32
 unfoldable pub foldPart : Set → Set → Set → List ℕ → ℕ → List ℕ
-foldPart S U S' k p = tab 256 (foldTable S U S' k (p / 8) (p % 8))
+foldPart S U S' k p = tab foldLength (foldTable S U S' k (p / 8) (p % 8))
 
 unfoldable pub groupPart : Set → Set → Set → List ℕ → List ℕ
 groupPart S U S' k = chunks 32 (foldPart S U S' k)
@@ -55,19 +55,6 @@ unfoldable pub bookOf : ℕ → List (List ℕ) → List ℕ → List ℕ
 bookOf r rows ch = startPart r ch ++ (chunks 3 (bookGroup r rows ch) ++ chunks r (bookRound r rows ch))
 
 -- ---- where the parts stand
-
--- the bytes of the start, of a group and of a round, and the offset of the first round
-abbrev pub startLength : ℕ
-startLength = 16
-
-abbrev pub groupLength : ℕ
-groupLength = 8192
-
-abbrev pub roundLength : ℕ
-roundLength = 18432
-
-abbrev pub roundsStart : ℕ
-roundsStart = startLength + 3 * groupLength
 
 -- the start of a book; a book from its group g on; and a book from its round l on
 abbrev pub startOf : List ℕ → List ℕ

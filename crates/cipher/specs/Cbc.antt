@@ -1,5 +1,4 @@
 -- The CBC mode of a block cipher (document 000; SP 800-38A, the Cipher Block Chaining mode).
--- Assumes nothing.
 use mathlib.Core.List.{List, [], _∷_}
 use Prim.Native.Nat.{ℕ}
 use Rattle.lists.specs.Blocks.{xorBlock}

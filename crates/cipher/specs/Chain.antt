@@ -1,7 +1,6 @@
 -- Chains of codings (document 01, "Chain of codings", its second paragraph; chain, message set, middle coding and mask are
 -- its terms): where everything stands in the bytes of a chain of r rounds, when a chain is valid, and the tests of the
 -- refusals 2 to 5 ("Refusals from the input").
--- Assumes nothing.
 use mathlib.Core.Path.{_≡_}
 use mathlib.Core.Bool.{Bool, not, cond, _&&_}
 use mathlib.Core.List.{List, [], _∷_}
@@ -10,26 +9,23 @@ use lib.Dec.{ltb, eqb}
 use lib.ListN.{length, getD, drop}
 use Rattle.lists.specs.Every.{every}
 use Rattle.cipher.specs.KeySize.{rounds, chainLength}
+use Rattle.cipher.specs.Lengths.{setLength, wordLength, middlesLength, roundCodingsLength}
 use Rattle.cipher.specs.Coding.{Permutation, Permutations, Set, codingAt, setOf}
 use Rattle.cipher.specs.Tables.{RoundCodings}
 use Rattle.cipher.specs.declared.size.KeySize.{KeySize}
 
 -- ---- where everything stands
 
--- how many bytes a set takes
-abbrev pub setLength : ℕ
-setLength = 512
-
--- in front the message set U, behind it the sets 0 to r
+-- in front the message set U, after it the sets 0 to r
 abbrev pub messageSet : List ℕ → Set
 messageSet ch = setOf ch
 
 abbrev pub chainSet : List ℕ → ℕ → Set
 chainSet ch l = setOf (drop (setLength * suc l) ch)
 
--- behind the sets, 408 bytes for each round; the chain from those of round l on
+-- after the sets, the bytes for each round; the chain from those of round l on
 abbrev pub roundBytes : ℕ → List ℕ → ℕ → List ℕ
-roundBytes r ch l = drop (setLength * (r + 2) + 408 * l) ch
+roundBytes r ch l = drop (setLength * (r + 2) + roundCodingsLength * l) ch
 
 -- of them 24 codings of 16 bytes: the middle codings G, that of half byte j of sum i at place 8i + j
 abbrev pub middleSet : ℕ → List ℕ → ℕ → Set
@@ -37,7 +33,7 @@ middleSet r ch l = setOf (roundBytes r ch l)
 
 -- and 24 masks, a byte each: the one at place k
 abbrev pub maskAt : ℕ → List ℕ → ℕ → ℕ → ℕ
-maskAt r ch l k = getD (roundBytes r ch l) (384 + k) 0
+maskAt r ch l k = getD (roundBytes r ch l) (middlesLength + k) 0
 
 -- the mask of the carry into half byte j of sum i stands at place 8i + j
 abbrev pub maskIn : ℕ → List ℕ → ℕ → ℕ → ℕ → ℕ
@@ -65,7 +61,7 @@ pub record CodingRule (r : ℕ) (ch : List ℕ) : Type 0 where
   pub sets : (l : ℕ) → l ≤ r → Permutations (chainSet ch l)
   pub middles : (l i j : ℕ) → l < r → i < 3 → j < 8 → Permutation (middleSet r ch l i j)
 
--- the word 3 rule: behind a round, word 3 is coded as word 0 was before it
+-- the word 3 rule: after a round, word 3 is coded as word 0 was before it
 abbrev pub WordRule : ℕ → List ℕ → Type 0
 WordRule r ch = (l j v : ℕ) → l < r → j < 8 → v < 16 → chainSet ch (suc l) 3 j v ≡ chainSet ch l 0 j v
 
@@ -102,7 +98,7 @@ codingRuleHolds r ch = arePermutations (32 * (r + 2)) ch && every r (λ l. arePe
 
 -- word 3 of the set in `after` is coded as word 0 of the one in `before`: a word has eight codings
 abbrev pub wordKept : List ℕ → List ℕ → Bool
-wordKept before after = every 128 (λ k. eqb (getD after (128 * 3 + k) 0) (getD before k 0))
+wordKept before after = every wordLength (λ k. eqb (getD after (wordLength * 3 + k) 0) (getD before k 0))
 
 unfoldable pub wordRuleHolds : ℕ → List ℕ → Bool
 wordRuleHolds r ch = every r (λ l. wordKept (drop (setLength * suc l) ch) (drop (setLength * suc (suc l)) ch))
@@ -113,7 +109,7 @@ maskLimit k = cond (eqb (k % 8) 0) 1 2
 
 -- the masks of a round, whose bytes s begins with
 abbrev pub masksHold : List ℕ → Bool
-masksHold s = every 24 (λ k. ltb (getD s (384 + k) 0) (maskLimit k))
+masksHold s = every 24 (λ k. ltb (getD s (middlesLength + k) 0) (maskLimit k))
 
 unfoldable pub maskRuleHolds : ℕ → List ℕ → Bool
 maskRuleHolds r ch = every r (λ l. masksHold (roundBytes r ch l))

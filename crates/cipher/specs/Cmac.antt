@@ -1,6 +1,5 @@
--- Doubling, the subkeys of CMAC, its chaining, and CMAC whole (SP 800-38B, subkey generation and MAC generation; document 01, "Book",
+-- Doubling, the subkeys of CMAC, the CBC-MAC under it, and CMAC whole (SP 800-38B, subkey generation and MAC generation; document 01, "Book",
 -- its last but one paragraph).
--- Assumes nothing.
 use mathlib.Core.Bool.{cond}
 use mathlib.Core.List.{List, [], _∷_, _++_}
 use Prim.Native.Nat.{ℕ, _+_, _-_, _*_, _/_, _%_}
@@ -8,7 +7,7 @@ use lib.Bits.{bitXor}
 use lib.Dec.{leb, eqb}
 use lib.ListN.{getD, length, drop, replicate}
 use Rattle.lists.specs.Tabulation.{tab}
-use Rattle.lists.specs.Blocks.{zeros, xorBlock, cut}
+use Rattle.lists.specs.Blocks.{zeros, xorBlock, cut, blockLength}
 
 -- a byte of a block shifted left by one bit, the bit that comes in taken from the byte after it
 abbrev pub shifted : ℕ → ℕ → ℕ
@@ -27,23 +26,23 @@ subkey1 cipher = double (cipher zeros)
 unfoldable pub subkey2 : (List ℕ → List ℕ) → List ℕ
 subkey2 cipher = double (subkey1 cipher)
 
--- the chaining value x after some blocks: each is xored in and the result enciphered
-unfoldable pub chained : (List ℕ → List ℕ) → List ℕ → List (List ℕ) → List ℕ
-chained cipher x [] = x
-chained cipher x (b ∷ bs) = chained cipher (cipher (xorBlock x b)) bs
+-- CBC-MAC from x over some blocks: each is xored in and the result enciphered
+unfoldable pub cbcMac : (List ℕ → List ℕ) → List ℕ → List (List ℕ) → List ℕ
+cbcMac cipher x [] = x
+cbcMac cipher x (b ∷ bs) = cbcMac cipher (cipher (xorBlock x b)) bs
 
 -- how many blocks of a message of n bytes come before the last one: the last one is whole where the message fills its blocks
 -- and is not empty, and begun where it does not
 unfoldable pub blocksBefore : ℕ → ℕ
-blocksBefore n = (n - 1) / 16
+blocksBefore n = (n - 1) / blockLength
 
 -- the last block of a message, of which b is left: under K1 where it is complete, else with a bit 1 and bits 0 after it under K2
 unfoldable pub lastBlock : (List ℕ → List ℕ) → List ℕ → List ℕ
 lastBlock cipher b =
-    cond (eqb (length b) 16) (xorBlock b (subkey1 cipher)) (xorBlock (b ++ (0x80 ∷ replicate (15 - length b) 0)) (subkey2 cipher))
+    cond (eqb (length b) blockLength) (xorBlock b (subkey1 cipher)) (xorBlock (b ++ (0x80 ∷ replicate (15 - length b) 0)) (subkey2 cipher))
 
 -- the CMAC of a message (SP 800-38B, MAC generation)
 unfoldable pub cmac : (List ℕ → List ℕ) → List ℕ → List ℕ
 cmac cipher m =
     let n = blocksBefore (length m) in
-    cipher (xorBlock (chained cipher zeros (cut n m)) (lastBlock cipher (drop (16 * n) m)))
+    cipher (xorBlock (cbcMac cipher zeros (cut n m)) (lastBlock cipher (drop (blockLength * n) m)))

@@ -1,6 +1,5 @@
 -- Codings, sets of codings, and blocks coded by a set (document 01, "Chain of codings", its first paragraph). A coding is
 -- read as a function on the numbers 0 to 15, a set as a function of word, half byte and value.
--- Assumes nothing.
 use mathlib.Core.Path.{_≡_}
 use mathlib.Core.Bool.{cond}
 use mathlib.Core.List.{List}
@@ -9,6 +8,8 @@ use lib.Dec.{eqb}
 use lib.ListN.{getD}
 use Rattle.lists.specs.Tabulation.{tab, chunks}
 use Rattle.lists.specs.HalfBytes.{halfByte}
+use Rattle.lists.specs.Blocks.{blockLength}
+use Rattle.cipher.specs.Lengths.{codingLength, setLength}
 
 -- f sends the numbers below n to numbers below m, no two to the same
 pub record OneToOne (n m : ℕ) (f : ℕ → ℕ) : Type 0 where
@@ -38,7 +39,7 @@ Permutations S = (w j : ℕ) → w < 4 → j < 8 → Permutation (S w j)
 
 -- where codings lie in bytes s, one after another and 16 bytes each: what coding k sends v to
 abbrev pub codingAt : List ℕ → ℕ → ℕ → ℕ
-codingAt s k v = getD s (16 * k + v) 0
+codingAt s k v = getD s (codingLength * k + v) 0
 
 -- the first n codings in s are permutations
 abbrev pub FirstPermutations : ℕ → List ℕ → Type 0
@@ -48,9 +49,9 @@ FirstPermutations n s = (k : ℕ) → k < n → Permutation (codingAt s k)
 abbrev pub setOf : List ℕ → Set
 setOf s w j = codingAt s (8 * w + j)
 
--- the 512 bytes of the set in s are half bytes, as those of permutations are
+-- the bytes of the set in s are half bytes, as those of permutations are
 abbrev pub LowSet : List ℕ → Type 0
-LowSet s = (i : ℕ) → i < 512 → getD s i 0 < 16
+LowSet s = (i : ℕ) → i < setLength → getD s i 0 < 16
 
 -- byte k of a block, x, coded by the set in s: codings 2k and 2k + 1 serve its halves
 abbrev pub byteCoded : List ℕ → ℕ → ℕ → ℕ
@@ -62,7 +63,7 @@ blockHalf b w j = halfByte (getD b (4 * w + j / 2) 0) (j % 2)
 
 -- the block whose half byte j of word w is x w j
 unfoldable pub ofHalves : (ℕ → ℕ → ℕ) → List ℕ
-ofHalves x = tab 16 (λ k. x (k / 4) (2 * (k % 4)) + 16 * x (k / 4) (2 * (k % 4) + 1))
+ofHalves x = tab blockLength (λ k. x (k / 4) (2 * (k % 4)) + 16 * x (k / 4) (2 * (k % 4) + 1))
 
 -- a block coded, and decoded, by a set: each half byte by its own coding
 unfoldable pub coded : Set → List ℕ → List ℕ

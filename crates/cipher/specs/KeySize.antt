@@ -1,6 +1,5 @@
 -- The three key sizes, with the numbers that document 01 gives for each: rounds ("LEA"), the length of a chain ("Chain of
 -- codings") and of a book ("Book"). Chain and book are 01's terms.
--- Assumes nothing.
 use mathlib.Core.Bool.{cond}
 use Prim.Native.Nat.{ℕ, _+_, _*_}
 use lib.Dec.{eqb}

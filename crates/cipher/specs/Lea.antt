@@ -1,6 +1,5 @@
 -- LEA on blocks of 16 bytes under rows of round keys (document 001, algorithms 1, 2, 6 and 7; document 01, "LEA"). Everything is
--- said of any rows; a key enters only by its schedule.
--- Assumes nothing.
+-- said of any rows; a key enters only by its rows.
 use Prim.Native.Nat.{ℕ, zero, suc}
 use mathlib.Core.List.{List, [], _∷_, _++_}
 use lib.ListN.{getD}
@@ -55,9 +54,14 @@ firstRounds rows n b = bytes (forward rows n (words4 b))
 unfoldable pub undoneRounds : List (List ℕ) → ℕ → List ℕ → List ℕ
 undoneRounds rows n b = bytes (backward rows n (words4 b))
 
+-- the rows of round keys that a key of a size supplies: whatever has a key takes its rows from here, and only here a schedule is
+-- named
+abbrev pub keyRows : KeySize → List ℕ → List (List ℕ)
+keyRows z key = schedule z key
+
 -- a block enciphered, and deciphered, under a key of a size
 abbrev pub encipher : KeySize → List ℕ → List ℕ → List ℕ
-encipher z key b = firstRounds (schedule z key) (rounds z) b
+encipher z key b = firstRounds (keyRows z key) (rounds z) b
 
 abbrev pub decipher : KeySize → List ℕ → List ℕ → List ℕ
-decipher z key b = undoneRounds (schedule z key) (rounds z) b
+decipher z key b = undoneRounds (keyRows z key) (rounds z) b

@@ -1,3 +1,4 @@
+pub mod Lengths
 pub mod KeySize
 pub mod Refusal
 pub mod Word

@@ -1,5 +1,4 @@
 -- The numbers of document 01's refusals ("Refusals from the input" and "Refusals from the state").
--- Assumes nothing.
 use Prim.Native.Nat.{ℕ}
 use Rattle.cipher.specs.declared.refusal.Refusal.{Refusal}
 use Rattle.cipher.specs.declared.refusal.Refusal.the-variants.{KeyLength, ChainLength, NoPermutation, WordRule, MaskByte, BookLength, BlockLength, MessageLength, ShortBuffer, KindByte, BadPadding, SessionFinished, SessionFull}

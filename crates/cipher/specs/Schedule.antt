@@ -1,6 +1,5 @@
 -- LEA's key schedule (document 001, algorithms 3, 4 and 5; document 01, "LEA", which mends their scans): the key's words T
 -- are changed step by step, and each step gives one row of six round keys.
--- Assumes nothing.
 use Prim.Native.Nat.{ℕ, zero, suc, _+_, _-_, _*_, _%_}
 use mathlib.Core.List.{List, [], _∷_, _++_}
 use lib.ListN.{getD, set, replicate}
@@ -52,7 +51,7 @@ step24 i t = mixedRow (deltaOf 6 i) i t
 abbrev pub row24 : ℕ → List ℕ → List ℕ
 row24 i t = t
 
--- ---- 32 bytes: eight words; a step changes six of them, going round, and these are the row
+-- ---- 32 bytes: eight words; a step changes six of them, the places taken mod 8, and these are the row
 unfoldable pub place : ℕ → ℕ → ℕ
 place i m = (6 * i + m) % 8
 

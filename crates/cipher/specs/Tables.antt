@@ -1,6 +1,5 @@
 -- What the tables of a book hold (document 01, "Book"), and how a reader uses them (the end of "Book", and the driver's
 -- paragraph of "Pad, driver, archive"). Book, middle coding, mask, turn and fold are 01's terms.
--- Assumes nothing.
 use mathlib.Core.Bool.{cond}
 use mathlib.Core.List.{List}
 use mathlib.Core.Path.{_≡_}
@@ -9,6 +8,7 @@ use lib.Bits.{bitXor}
 use lib.Dec.{ltb}
 use lib.ListN.{getD}
 use Rattle.lists.specs.HalfBytes.{halfByte}
+use Rattle.cipher.specs.Lengths.{addLength, turnLength, foldLength, addsLength}
 use Rattle.cipher.specs.Coding.{Set, decode, blockHalf, ofHalves}
 
 -- ---- an entry of a single table (01, "Book")
@@ -77,25 +77,24 @@ turnTable c i j n = turnEntry i (c .middle i (upper i j)) (c .middle i (lower i 
 unfoldable pub foldTable : Set → Set → Set → List ℕ → ℕ → ℕ → ℕ → ℕ
 foldTable S U S' k w j n = foldEntry (S w j) (U w j) (S' w j) (blockHalf k w j) n
 
--- ---- where an entry stands: in a round behind 24 add tables of 512 bytes come 24 turn tables of 256, a group is 32 fold
--- tables of 256, each in the order of its number 8i + j (01, "Book")
+-- ---- where an entry stands: in a round after 24 add tables come 24 turn tables, a group is 32 fold tables, each in the order of its number 8i + j (01, "Book")
 
 abbrev pub addAt : List ℕ → ℕ → ℕ → ℕ → ℕ
-addAt t i j n = getD t (512 * (8 * i + j) + n) 0
+addAt t i j n = getD t (addLength * (8 * i + j) + n) 0
 
 abbrev pub turnAt : List ℕ → ℕ → ℕ → ℕ → ℕ
-turnAt t i j n = getD t (12288 + 256 * (8 * i + j) + n) 0
+turnAt t i j n = getD t (addsLength + turnLength * (8 * i + j) + n) 0
 
 abbrev pub foldAt : List ℕ → ℕ → ℕ → ℕ → ℕ
-foldAt t w j n = getD t (256 * (8 * w + j) + n) 0
+foldAt t w j n = getD t (foldLength * (8 * w + j) + n) 0
 
 -- t begins with the tables of a round, or with a group of fold tables
 pub record RoundTables (c : RoundCodings) (k t : List ℕ) : Type 0 where
-  pub adds : (i j n : ℕ) → i < 3 → j < 8 → n < 512 → addAt t i j n ≡ addTable c k i j n
-  pub turns : (i j n : ℕ) → i < 3 → j < 8 → n < 256 → turnAt t i j n ≡ turnTable c i j n
+  pub adds : (i j n : ℕ) → i < 3 → j < 8 → n < addLength → addAt t i j n ≡ addTable c k i j n
+  pub turns : (i j n : ℕ) → i < 3 → j < 8 → n < turnLength → turnAt t i j n ≡ turnTable c i j n
 
 abbrev pub FoldTables : Set → Set → Set → List ℕ → List ℕ → Type 0
-FoldTables S U S' k t = (w j n : ℕ) → w < 4 → j < 8 → n < 256 → foldAt t w j n ≡ foldTable S U S' k w j n
+FoldTables S U S' k t = (w j n : ℕ) → w < 4 → j < 8 → n < foldLength → foldAt t w j n ≡ foldTable S U S' k w j n
 
 -- ---- a round by the tables t on a block b (01, "Book" and "Pad, driver, archive"): of each entry only these bits are used
 
@@ -112,14 +111,14 @@ sumAt t b i j = addAt t i j (256 * carryAt t b i j + 16 * blockHalf b i j + bloc
 unfoldable pub newAt : List ℕ → List ℕ → ℕ → ℕ → ℕ
 newAt t b i j = turnAt t i j (16 * sumAt t b i (upper i j) + sumAt t b i (lower i j)) % 16
 
--- half byte j of word w behind the round; word 3 is what word 0 was
+-- half byte j of word w after the round; word 3 is what word 0 was
 unfoldable pub halfAfter : List ℕ → List ℕ → ℕ → ℕ → ℕ
 halfAfter t b zero j = newAt t b 0 j
 halfAfter t b (suc zero) j = newAt t b 1 j
 halfAfter t b (suc (suc zero)) j = newAt t b 2 j
 halfAfter t b (suc (suc (suc w))) j = blockHalf b 0 j
 
--- the block behind the round, and behind n rounds, round l by the tables t l
+-- the block after the round, and after n rounds, round l by the tables t l
 unfoldable pub tableRound : List ℕ → List ℕ → List ℕ
 tableRound t b = ofHalves (halfAfter t b)
 

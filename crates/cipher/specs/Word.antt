@@ -1,6 +1,5 @@
 -- 32-bit words as numbers below 2 ^ 32 (document 01, "LEA"; document 001, notation): sum and difference mod 2 ^ 32, xor,
 -- rotations, and the four bytes of a word, lowest first.
--- Assumes nothing.
 use Prim.Native.Nat.{ℕ, _+_, _*_, _/_, _%_, _-_, _^_}
 use mathlib.Core.List.{List, [], _∷_}
 use lib.ListN.{getD}

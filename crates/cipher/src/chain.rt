@@ -4,6 +4,7 @@
 ghost use mathlib.Core.Path.{_≡_};
 ghost use Prim.Native.Nat.{_+_, _*_, _≤_};
 ghost use lib.ListN.{length};
+ghost use Rattle.cipher.specs.Lengths.{codingLength, roundCodingsLength, setLength};
 ghost use Rattle.lists.specs.Refusals.{first};
 ghost use Rattle.lists.specs.Every.{every};
 ghost use Rattle.cipher.specs.Refusal.{outcomeOf};
@@ -11,6 +12,7 @@ ghost use Rattle.cipher.specs.Coding.{codingAt};
 ghost use Rattle.cipher.specs.Chain as C;
 ghost use Rattle.cipher.specs.Answers.{setChecked, chainChecked};
 use crate::invert::wide;
+use crate::lengths;
 use crate::refusal::Outcome;
 use crate::refusal::Refusal;
 use crate::size::KeySize;
@@ -18,14 +20,14 @@ use crate::size::SizeFound;
 
 // Whether coding k of those in s is a permutation: each image is below 16, and none was seen before.
 fn is_permutation(s: &[u8], k: usize) -> bool
-    requires { ⌜ 16 * k + 16 ≤ length (now s) ⌝ }
+    requires { ⌜ codingLength * k + codingLength ≤ length (now s) ⌝ }
     ensures { λ r. ⌜ r ≡ C.isOneToOne 16 16 (codingAt (now (s .entry)) k) ⌝ }
 {
-    let at = KeySize::CODING * k;
-    let mut seen = [0u8; KeySize::CODING];
-    for v in 0..KeySize::CODING {
+    let at = lengths::CODING * k;
+    let mut seen = [0u8; lengths::VALUES];
+    for v in 0..lengths::VALUES {
         let image = wide(s[at + v]);
-        if KeySize::CODING <= image {
+        if lengths::VALUES <= image {
             return false;
         }
         if seen[image] != 0 {
@@ -38,7 +40,7 @@ fn is_permutation(s: &[u8], k: usize) -> bool
 
 // Whether the first n codings in s are permutations.
 fn are_permutations(s: &[u8], n: usize) -> bool
-    requires { ⌜ 16 * n ≤ length (now s) ⌝ }
+    requires { ⌜ codingLength * n ≤ length (now s) ⌝ }
     ensures { λ r. ⌜ r ≡ C.arePermutations n (now (s .entry)) ⌝ }
 {
     for k in 0..n {
@@ -54,10 +56,10 @@ fn middles_permute(chain: &[u8], r: usize) -> bool
     requires { ⌜ (r ≤ 32) × (1024 + 920 * r ≤ length (now chain)) ⌝ }
     ensures { λ b. ⌜ b ≡ every r (λ l. C.arePermutations 24 (C.roundBytes r (now (chain .entry)) l)) ⌝ }
 {
-    let sets = KeySize::SET * (r + 2);
+    let sets = lengths::SET * (r + 2);
     for l in 0..r {
-        let at = sets + KeySize::ROUND_CODINGS * l;
-        if !are_permutations(&chain[at..], KeySize::MIDDLES) {
+        let at = sets + lengths::ROUND_CODINGS * l;
+        if !are_permutations(&chain[at..], lengths::MIDDLES) {
             return false;
         }
     }
@@ -69,7 +71,7 @@ fn codings_permute(chain: &[u8], r: usize) -> bool
     requires { ⌜ (r ≤ 32) × (1024 + 920 * r ≤ length (now chain)) ⌝ }
     ensures { λ b. ⌜ b ≡ C.codingRuleHolds r (now (chain .entry)) ⌝ }
 {
-    if !are_permutations(chain, KeySize::SET_CODINGS * (r + 2)) {
+    if !are_permutations(chain, lengths::SET_CODINGS * (r + 2)) {
         return false;
     }
     middles_permute(chain, r)
@@ -77,11 +79,11 @@ fn codings_permute(chain: &[u8], r: usize) -> bool
 
 // Whether word 3 of the set in after is coded as word 0 of the set in before.
 fn word_kept(before: &[u8], after: &[u8]) -> bool
-    requires { ⌜ (512 ≤ length (now before)) × (512 ≤ length (now after)) ⌝ }
+    requires { ⌜ (setLength ≤ length (now before)) × (setLength ≤ length (now after)) ⌝ }
     ensures { λ r. ⌜ r ≡ C.wordKept (now (before .entry)) (now (after .entry)) ⌝ }
 {
-    for k in 0..KeySize::WORD {
-        if after[KeySize::WORD * 3 + k] != before[k] {
+    for k in 0..lengths::WORD {
+        if after[lengths::WORD * 3 + k] != before[k] {
             return false;
         }
     }
@@ -94,8 +96,8 @@ fn words_kept(chain: &[u8], r: usize) -> bool
     ensures { λ b. ⌜ b ≡ C.wordRuleHolds r (now (chain .entry)) ⌝ }
 {
     for set in 0..r {
-        let before = KeySize::SET * (set + 1);
-        let after = KeySize::SET * (set + 2);
+        let before = lengths::SET * (set + 1);
+        let after = lengths::SET * (set + 2);
         if !word_kept(&chain[before..], &chain[after..]) {
             return false;
         }
@@ -107,16 +109,16 @@ fn words_kept(chain: &[u8], r: usize) -> bool
 fn mask_limit(k: usize) -> u8
     ensures { λ r. ⌜ r ≡ C.maskLimit k ⌝ }
 {
-    if k % KeySize::HALVES == 0 { 1 } else { 2 }
+    if k % lengths::HALVES == 0 { 1 } else { 2 }
 }
 
 // Whether the masks of a round hold, whose bytes s begins with.
 fn masks_hold(s: &[u8]) -> bool
-    requires { ⌜ 408 ≤ length (now s) ⌝ }
+    requires { ⌜ roundCodingsLength ≤ length (now s) ⌝ }
     ensures { λ r. ⌜ r ≡ C.masksHold (now (s .entry)) ⌝ }
 {
-    for k in 0..KeySize::MIDDLES {
-        if mask_limit(k) <= s[KeySize::CODING * KeySize::MIDDLES + k] {
+    for k in 0..lengths::MIDDLES {
+        if mask_limit(k) <= s[lengths::MASKS + k] {
             return false;
         }
     }
@@ -128,9 +130,9 @@ fn all_masks_hold(chain: &[u8], r: usize) -> bool
     requires { ⌜ (r ≤ 32) × (1024 + 920 * r ≤ length (now chain)) ⌝ }
     ensures { λ b. ⌜ b ≡ C.maskRuleHolds r (now (chain .entry)) ⌝ }
 {
-    let sets = KeySize::SET * (r + 2);
+    let sets = lengths::SET * (r + 2);
     for l in 0..r {
-        let at = sets + KeySize::ROUND_CODINGS * l;
+        let at = sets + lengths::ROUND_CODINGS * l;
         if !masks_hold(&chain[at..]) {
             return false;
         }
@@ -142,10 +144,10 @@ fn all_masks_hold(chain: &[u8], r: usize) -> bool
 pub fn check_set(set: &[u8]) -> Outcome
     ensures { λ r. ⌜ outcomeOf r ≡ setChecked (now (set .entry)) ⌝ }
 {
-    if set.len() != KeySize::SET {
+    if set.len() != lengths::SET {
         return Outcome::Refused(Refusal::ChainLength);
     }
-    if !are_permutations(set, KeySize::SET_CODINGS) {
+    if !are_permutations(set, lengths::SET_CODINGS) {
         return Outcome::Refused(Refusal::NoPermutation);
     }
     Outcome::Done

@@ -1,12 +1,13 @@
-// Doubling, the subkeys of CMAC and its chaining.
+// Doubling, the subkeys of CMAC, and the CBC-MAC under it.
 ghost use mathlib.Core.Path.{_≡_};
 ghost use Prim.Native.Nat.{_*_, _≤_};
 ghost use lib.ListN.{length};
-ghost use Rattle.lists.specs.Blocks.{zeros, cut};
+ghost use Rattle.lists.specs.Blocks.{zeros, cut, blockLength};
 ghost use Rattle.cipher.specs.KeySize.{rounds};
 ghost use Rattle.cipher.specs.Schedule.{words4};
 ghost use Rattle.cipher.specs.Lea.{firstRounds};
 ghost use Rattle.cipher.specs.Cmac as C;
+use crate::lengths;
 use crate::round::four_rounds;
 use crate::rows;
 use crate::size::KeySize;
@@ -54,16 +55,16 @@ pub fn subkeys(rows: [[u32; 6]; 32], size: KeySize) -> SubkeyPair
     SubkeyPair { k1, k2 }
 }
 
-// The chaining value, in words, after the first n blocks of a text, from the zero block. The rows
+// The CBC-MAC, in words, of the first n blocks of a text, from the zero block. The rows
 // stay here and each round is handed its row, so that no block pays for a copy of them.
-pub fn chain(rows: [[u32; 6]; 32], size: KeySize, text: &[u8], n: usize) -> [u32; 4]
-    requires { ⌜ 16 * n ≤ length (now text) ⌝ }
-    ensures { λ r. ⌜ r ≡ words4 (C.chained (firstRounds rows (rounds size)) zeros (cut n (now (text .entry)))) ⌝ }
+pub fn cbc_mac(rows: [[u32; 6]; 32], size: KeySize, text: &[u8], n: usize) -> [u32; 4]
+    requires { ⌜ blockLength * n ≤ length (now text) ⌝ }
+    ensures { λ r. ⌜ r ≡ words4 (C.cbcMac (firstRounds rows (rounds size)) zeros (cut n (now (text .entry)))) ⌝ }
 {
     let fours = size.rounds() / 4;
     let mut x = [0u32; 4];
     for k in 0..n {
-        let at = 16 * k;
+        let at = lengths::BLOCK * k;
         let mut y = xor(x, words(&text[at..]));
         for q in 0..fours {
             let z = four_rounds(

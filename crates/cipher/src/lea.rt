@@ -1,39 +1,24 @@
 // The operations on a key and a block. Each refuses a key of no known size (1), then a block that is
 // not of 16 bytes (7).
 ghost use mathlib.Core.Path.{_≡_};
-ghost use Rattle.lists.specs.Blocks.{zeros};
-ghost use Rattle.cipher.specs.Refusal.{numberOf};
 ghost use Rattle.cipher.specs.Lea as L;
 ghost use Rattle.cipher.specs.Answers.{blockTold, rowTold, encipherAnswer, decipherAnswer, roundsAnswer, rowAnswer};
+use crate::answer::BlockAnswer;
+use crate::answer::refused;
+use crate::lengths;
 use crate::refusal::Outcome;
 use crate::refusal::Refusal;
 use crate::rows;
-use crate::schedule::schedule;
+use crate::schedule::key_rows;
 use crate::size::KeySize;
 use crate::size::SizeFound;
 use crate::word::bytes;
 use crate::word::words;
 
-// A block, or the refusal and zeros.
-pub struct BlockAnswer {
-    pub outcome: Outcome,
-    pub block: [u8; 16],
-}
-
 // A row of round keys, or the refusal and zeros.
 pub struct RowAnswer {
     pub outcome: Outcome,
     pub row: [u32; 6],
-}
-
-// A refusal as an answer.
-pub fn refused(why: Refusal) -> BlockAnswer
-    ensures { λ r. ⌜ blockTold r ≡ (numberOf why, zeros) ⌝ }
-{
-    BlockAnswer {
-        outcome: Outcome::Refused(why),
-        block: [0u8; 16],
-    }
 }
 
 fn done(x: [u32; 4]) -> BlockAnswer
@@ -53,10 +38,10 @@ pub fn encipher(key: &[u8], block: &[u8]) -> BlockAnswer
     let SizeFound::Found(size) = KeySize::of_key_len(key.len()) else {
         return refused(Refusal::KeyLength);
     };
-    if block.len() != 16 {
+    if block.len() != lengths::BLOCK {
         return refused(Refusal::BlockLength);
     }
-    let rows = schedule(size, key);
+    let rows = key_rows(size, key);
     done(rows::encipher(rows, size, words(block)))
 }
 
@@ -67,10 +52,10 @@ pub fn decipher(key: &[u8], block: &[u8]) -> BlockAnswer
     let SizeFound::Found(size) = KeySize::of_key_len(key.len()) else {
         return refused(Refusal::KeyLength);
     };
-    if block.len() != 16 {
+    if block.len() != lengths::BLOCK {
         return refused(Refusal::BlockLength);
     }
-    let rows = schedule(size, key);
+    let rows = key_rows(size, key);
     done(rows::decipher(rows, size, words(block)))
 }
 
@@ -81,10 +66,10 @@ pub fn first_rounds(key: &[u8], n: usize, block: &[u8]) -> BlockAnswer
     let SizeFound::Found(size) = KeySize::of_key_len(key.len()) else {
         return refused(Refusal::KeyLength);
     };
-    if block.len() != 16 {
+    if block.len() != lengths::BLOCK {
         return refused(Refusal::BlockLength);
     }
-    let rows = schedule(size, key);
+    let rows = key_rows(size, key);
     let all = size.rounds();
     if n <= all {
         return done(rows::first_rounds(rows, n, words(block)));
@@ -102,7 +87,7 @@ pub fn round_keys(key: &[u8], l: usize) -> RowAnswer
             row: [0u32; 6],
         };
     };
-    let rows = schedule(size, key);
+    let rows = key_rows(size, key);
     let row = rows[l % size.rounds()];
     RowAnswer {
         outcome: Outcome::Done,

@@ -1,5 +1,5 @@
 // LEA's key schedule: 24, 28 or 32 rows of six round keys, by value. Rows past the rounds are zero.
-// Each step takes its δ from the front of a queue, already turned by the step's count, and puts it behind, turned for the
+// Each step takes its δ from the front of a queue, already turned by the step's count, and puts it at the end, turned for the
 // step that it comes back in.
 ghost use mathlib.Core.Path.{_≡_};
 ghost use mathlib.Core.List.{[], _∷_, _++_};
@@ -8,6 +8,7 @@ ghost use lib.ListN.{length, getD};
 ghost use Rattle.lists.specs.Tabulation.{tab};
 ghost use Rattle.cipher.specs.KeySize.{keyLength};
 ghost use Rattle.cipher.specs.Word.{rol};
+ghost use Rattle.cipher.specs.Lea.{keyRows};
 ghost use Rattle.cipher.specs.Schedule as S;
 use crate::size::KeySize;
 use crate::word::rotate_left;
@@ -134,14 +135,14 @@ fn front(t: [u32; 8]) -> [u32; 6]
     [t[0], t[1], t[2], t[3], t[4], t[5]]
 }
 
-// The queue after these six went behind, mixed.
+// The queue after these six went to the end, mixed.
 fn queued(t: [u32; 8], r: [u32; 6]) -> [u32; 8]
     ensures { λ q. ⌜ q ≡ getD t 6 0 ∷ getD t 7 0 ∷ tab 6 (λ k. getD r k 0) ⌝ }
 {
     [t[6], t[7], r[0], r[1], r[2], r[3], r[4], r[5]]
 }
 
-// A queue of eight constants, the first gone behind, turned by eight.
+// A queue of eight constants, the first gone to the end, turned by eight.
 fn turned(d: [u32; 8]) -> [u32; 8]
     ensures { λ r. ⌜ r ≡ tab 7 (λ k. getD d (k + 1) 0) ++ (rol 8 (getD d 0 0) ∷ []) ⌝ }
 {
@@ -149,7 +150,7 @@ fn turned(d: [u32; 8]) -> [u32; 8]
     [d[1], d[2], d[3], d[4], d[5], d[6], d[7], last]
 }
 
-// The rows of a key of 32 bytes. The words too are a queue: a step takes six, and puts them behind, mixed.
+// The rows of a key of 32 bytes. The words too are a queue: a step takes six, and puts them at the end, mixed.
 fn schedule32(key: &[u8]) -> [[u32; 6]; 32]
     requires { ⌜ length (now key) ≡ 32 ⌝ }
     ensures { λ r. ⌜ r ≡ S.filled S.step32 S.row32 32 (S.words8 (now (key .entry))) ⌝ }
@@ -168,10 +169,10 @@ fn schedule32(key: &[u8]) -> [[u32; 6]; 32]
     rows
 }
 
-// The rows of a key of a size.
-pub fn schedule(size: KeySize, key: &[u8]) -> [[u32; 6]; 32]
+// The rows of a key of a size: whatever has a key takes its rows from here.
+pub fn key_rows(size: KeySize, key: &[u8]) -> [[u32; 6]; 32]
     requires { ⌜ length (now key) ≡ keyLength size ⌝ }
-    ensures { λ r. ⌜ r ≡ S.schedule size (now (key .entry)) ⌝ }
+    ensures { λ r. ⌜ r ≡ keyRows size (now (key .entry)) ⌝ }
 {
     match size {
         KeySize::Bytes16 => schedule16(key),

@@ -2,6 +2,7 @@
 // checks and driver take these numbers from here.
 ghost use mathlib.Core.Path.{_≡_};
 ghost use Rattle.cipher.specs.KeySize as S;
+use crate::lengths;
 
 pub enum KeySize {
     Bytes16,
@@ -16,27 +17,6 @@ pub enum SizeFound {
 }
 
 impl KeySize {
-    // A coding (01's term): the images of the sixteen half bytes.
-    pub const CODING: usize = 16;
-    // A set (01's term): 32 codings.
-    pub const SET: usize = 512;
-
-    pub const SET_CODINGS: usize = 32;
-    // Of a set, the codings of one word, for the eight half bytes that a word has.
-    pub const WORD: usize = 128;
-
-    pub const HALVES: usize = 8;
-    // What a chain (01's term) holds for each round beside its set: 24 middle codings, 24 masks.
-    pub const ROUND_CODINGS: usize = 408;
-
-    pub const MIDDLES: usize = 24;
-    // The start of a book (01's term), and one of its three groups of fold tables.
-    pub const START: usize = 16;
-
-    pub const GROUP: usize = 8192;
-    // The tables of one round of a book: 24 add tables, 24 turn tables.
-    pub const ROUND_TABLES: usize = 18432;
-
     pub fn rounds(self) -> usize
         ensures { λ r. ⌜ r ≡ S.rounds self ⌝ }
     {
@@ -60,13 +40,13 @@ impl KeySize {
     pub fn chain_len(self) -> usize
         ensures { λ r. ⌜ r ≡ S.chainLength self ⌝ }
     {
-        2 * KeySize::SET + (KeySize::SET + KeySize::ROUND_CODINGS) * self.rounds()
+        2 * lengths::SET + (lengths::SET + lengths::ROUND_CODINGS) * self.rounds()
     }
 
     pub fn book_len(self) -> usize
         ensures { λ r. ⌜ r ≡ S.bookLength self ⌝ }
     {
-        KeySize::START + 3 * KeySize::GROUP + KeySize::ROUND_TABLES * self.rounds()
+        lengths::ROUNDS + lengths::ROUND_TABLES * self.rounds()
     }
 
     // The size of a key of n bytes.

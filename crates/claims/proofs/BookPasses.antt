@@ -1,6 +1,5 @@
 -- What a fold and all rounds by a book are, decoded, and that a book's length tells its key's size; for any rows of round keys,
 -- and any valid chain.
--- Assumes nothing.
 use mathlib.Core.Path.{_≡_, ap, _∙_}
 use mathlib.Core.List.{List}
 use Prim.Native.Nat.{ℕ, _<_}

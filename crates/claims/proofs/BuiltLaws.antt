@@ -1,6 +1,5 @@
 -- What an answer 0 of the builder tells: the key has a known size, the chain is valid, and the book in the buffer is that of
--- the key's schedule and the chain.
--- Assumes nothing.
+-- the key's rows and the chain.
 use mathlib.Core.Path.{_≡_, refl, sym, ap, _∙_, subst}
 use mathlib.Core.Bool.{Bool, true, false, cond, not, _||_}
 use mathlib.Core.List.{List, [], _∷_, _++_}
@@ -11,8 +10,8 @@ use lib.ListN.{length, take, drop}
 use lib.Seq.{take-at}
 use Rattle.lists.specs.Refusals.{first}
 use Rattle.lists.proofs.RefusalLaws.{Clear}
+use Rattle.cipher.specs.Lea.{keyRows}
 use Rattle.cipher.specs.KeySize.{bookLength, sizeBy, sizeOfKey}
-use Rattle.cipher.specs.Schedule.{schedule}
 use Rattle.cipher.specs.Chain.{Chain, chainTests}
 use Rattle.cipher.specs.Book.{bookOf, Book}
 use Rattle.cipher.specs.Answers.{keyTests, keyLengthSize, keySize, roomTests}
@@ -54,7 +53,7 @@ size-known n = go (eqb n 16) (eqb n 24) (eqb n 32)
 
 module _ (key ch out held : List ℕ) (built : Built key ch out held) where
   abbrev book : List ℕ
-  book = bookOf (keyRounds key) (schedule (keySize key) key) ch
+  book = bookOf (keyRounds key) (keyRows (keySize key) key) ch
 
   numbered : Numbered (keyTests key ++ (chainTests (keySize key) ch ++ roomTests (bookLength (keySize key)) out))
   unfolding chainTests
@@ -74,10 +73,10 @@ module _ (key ch out held : List ℕ) (built : Built key ch out held) where
   pub built-chain : Chain (keySize key) ch
   built-chain = chain-tested (keySize key) ch (clear-front (chainTests (keySize key) ch) (roomTests (bookLength (keySize key)) out) (parts .0 .1))
 
-  pub built-is : bookIn key held ≡ bookOf (keyRounds key) (schedule (keySize key) key) ch
+  pub built-is : bookIn key held ≡ bookOf (keyRounds key) (keyRows (keySize key) key) ch
   built-is =
       ap (take (bookLength (keySize key))) (sym (parts .1))
-      ∙ take-at book (drop (bookLength (keySize key)) out) (bookLength (keySize key)) (book-size (keyRounds key) (schedule (keySize key) key) ch)
+      ∙ take-at book (drop (bookLength (keySize key)) out) (bookLength (keySize key)) (book-size (keyRounds key) (keyRows (keySize key) key) ch)
 
-  pub built-book : Book (keyRounds key) (schedule (keySize key) key) ch (bookIn key held)
-  built-book = subst (λ (b : List ℕ). Book (keyRounds key) (schedule (keySize key) key) ch b) (sym built-is) (book-made (keyRounds key) (schedule (keySize key) key) ch)
+  pub built-book : Book (keyRounds key) (keyRows (keySize key) key) ch (bookIn key held)
+  built-book = subst (λ (b : List ℕ). Book (keyRounds key) (keyRows (keySize key) key) ch b) (sym built-is) (book-made (keyRounds key) (keyRows (keySize key) key) ch)

@@ -1,6 +1,5 @@
 -- CMAC block by block, as the model session makes it: the padded message's blocks, all but the last enciphered in a chain, the
 -- last one under the key of the message's kind.
--- Assumes nothing.
 use mathlib.Core.Path.{_≡_, refl, ap, ap₂, _∙_}
 use mathlib.Core.Bool.{true, false, cond}
 use mathlib.Core.List.{List, [], _∷_, _++_, append-nil}
@@ -15,7 +14,7 @@ use Rattle.lists.specs.Blocks.{zeros, xorBlock, cut, blocks}
 use Rattle.lists.proofs.TabulationLaws.{tab-ext}
 use Rattle.lists.proofs.XorLaws.{xor-assoc}
 use Rattle.lists.proofs.BlockLaws.{xor-at, cut-more}
-use Rattle.cipher.specs.Cmac.{chained, blocksBefore, lastBlock, cmac}
+use Rattle.cipher.specs.Cmac.{cbcMac, blocksBefore, lastBlock, cmac}
 use Rattle.pad.specs.Padding.{fillsBlocks, kindOf, paddedForTag}
 use Rattle.pad.proofs.PadLaws.{fills-empty, fills-whole, fills-part, tag-blocks}
 use Rattle.claims.specs.Model.{kindKey}
@@ -28,8 +27,8 @@ macOf E k x (b ∷ []) = E (xorBlock (xorBlock x b) k)
 macOf E k x (b ∷ c ∷ bs) = macOf E k (E (xorBlock x b)) (c ∷ bs)
 
 mac-last : (E : List ℕ → List ℕ) (k x : List ℕ) (bs : List (List ℕ)) (b : List ℕ)
-    → macOf E k x (bs ++ (b ∷ [])) ≡ E (xorBlock (xorBlock (chained E x bs) b) k)
-unfolding macOf chained
+    → macOf E k x (bs ++ (b ∷ [])) ≡ E (xorBlock (xorBlock (cbcMac E x bs) b) k)
+unfolding macOf cbcMac
 mac-last E k x [] b = refl
 mac-last E k x (c ∷ []) b = refl
 mac-last E k x (c ∷ d ∷ bs) b = mac-last E k (E (xorBlock x c)) (d ∷ bs) b
@@ -40,7 +39,7 @@ xor-block-assoc a b c =
     tab-ext 16 (λ k. bitXor (getD (xorBlock a b) k 0) (getD c k 0)) (λ k. bitXor (getD a k 0) (getD (xorBlock b c) k 0)) (λ k h.
     rw (xor-at a b k h, xor-at b c k h) (xor-assoc (getD a k 0) (getD b k 0) (getD c k 0)))
 
--- ---- a text with more behind it
+-- ---- a text with more after it
 
 cut-front : (n : ℕ) (m t : List ℕ) → 16 * n ≤ length m → cut n (m ++ t) ≡ cut n m
 unfolding cut
@@ -110,7 +109,7 @@ module _ (E : List ℕ → List ℕ) (m : List ℕ) where
   unfolding cmac
   mac-is-cmac =
       let K = kindKey E (kindOf (length m)) in
-      let X = chained E zeros (cut n m) in
+      let X = cbcMac E zeros (cut n m) in
       ap (macOf E K zeros) pieces
       ∙ mac-last E K zeros (cut n m) (rest ++ added)
       ∙ ap E (xor-block-assoc X (rest ++ added) K ∙ ap (xorBlock X) last-keyed)

@@ -1,6 +1,5 @@
 -- Demand 3 whole: it holds for every key, chain and buffer with which a book is built. (`PremisesMet`: with the identity chain there
 -- is a book for every key.)
--- Assumes nothing.
 use mathlib.Core.List.{List}
 use Prim.Native.Nat.{ℕ}
 use Rattle.lists.specs.Blocks.{Bytes}

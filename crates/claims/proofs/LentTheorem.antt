@@ -1,10 +1,9 @@
 -- Demand 3's list of calls on a session that is lent by &mut (document 01, "Forms to follow"): whatever the record held before it
 -- was begun with the book, its calls answer as the model, each on the record that the one before it left.
--- Assumes nothing.
 use mathlib.Core.Path.{_≡_, refl, sym, ap, _∙_}
 use mathlib.Core.List.{List, _∷_}
 use Prim.Native.Nat.{ℕ}
-use Rattle.cipher.specs.Schedule.{schedule}
+use Rattle.cipher.specs.Lea.{keyRows}
 use Rattle.cipher.specs.Lea.{encipher}
 use Rattle.cipher.specs.Chain.{messageSet, chainSet}
 use Rattle.cipher.specs.Answers.{keySize}
@@ -30,7 +29,7 @@ pub lent-built : (key ch out held : List ℕ) → Built key ch out held → (s�
 unfolding driverAnswers
 lent-built key ch out held b s₀ s q e =
     let bk = bookIn key held in
-    let known = book-found (keySize key) (schedule (keySize key) key) ch bk (built-chain key ch out held b) (built-book key ch out held b) in
+    let known = book-found (keySize key) (keyRows (keySize key) key) ch bk (built-chain key ch out held b) (built-book key ch out held b) in
     let fresh = e ∙ over-done bk s₀ _ known in (
       ap (λ (r : ℕ × Session). r .0) fresh,
       λ cs rs l. lent-run bk l ∙ ap (λ (r : ℕ × Session). run (driverCall bk) cs (r .1)) (fresh ∙ sym (begin-done bk _ known)) ∙ session-built key ch out held b cs,

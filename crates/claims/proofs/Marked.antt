@@ -1,5 +1,4 @@
 -- The marked examples of document 01's "Table of examples", proved together as one table.
--- Assumes nothing.
 use mathlib.Core.Path.{_≡_, refl, ap, _∙_}
 use mathlib.Core.Bool.{false}
 use mathlib.Core.List.{List, [], _∷_, _++_}

@@ -1,5 +1,4 @@
 -- The model on the calls of a message: none is refused, and the one tag is the message's CMAC, coded by set r.
--- Assumes nothing.
 use mathlib.Core.Path.{_≡_, refl, ap, ap₂, _∙_}
 use mathlib.Core.Bool.{false}
 use mathlib.Core.List.{List, [], _∷_, map}

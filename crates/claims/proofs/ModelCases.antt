@@ -1,5 +1,4 @@
 -- The answers of the model session, case by case. The cases exclude each other and leave none out.
--- Assumes nothing.
 use mathlib.Core.Path.{_≡_}
 use mathlib.Core.Bool.{true, false}
 use mathlib.Core.List.{List}

@@ -1,5 +1,4 @@
 -- What the pad writes for a tag, cut in blocks, with the kind that it tells: the message's calls.
--- Assumes nothing.
 use mathlib.Core.Path.{_≡_, sym, ap, _∙_}
 use mathlib.Core.List.{List}
 use Prim.Native.Nat.{ℕ, _+_, _-_, _/_, _≤_, _<_}

@@ -1,6 +1,5 @@
 -- The premises of demand 3's theorems can be met: for each key size the identity chain is valid, and with it and every key of that
 -- size a book is built. So none of the theorems is empty.
--- Assumes nothing.
 use mathlib.Core.Path.{_≡_, refl, sym, _∙_}
 use mathlib.Core.List.{List, _++_}
 use Prim.Native.Nat.{ℕ, suc, _+_, _*_, _%_, _≤_, _<_}
@@ -12,7 +11,7 @@ use Rattle.lists.specs.Tabulation.{chunks}
 use Rattle.lists.proofs.TabulationLaws.{length-tab, getD-tab, getD-replicate}
 use Rattle.lists.proofs.ChunkLaws.{length-chunks, getD-chunks, getD-second}
 use Rattle.cipher.specs.KeySize.{rounds, chainLength, bookLength, sizeOfKey}
-use Rattle.cipher.specs.Schedule.{schedule}
+use Rattle.cipher.specs.Lea.{keyRows}
 use Rattle.cipher.specs.Coding.{Permutation}
 use Rattle.cipher.specs.Chain.{messageSet, chainSet, middleSet, maskIn, Chain}
 use Rattle.cipher.specs.Book.{bookOf}
@@ -63,9 +62,9 @@ module _ (z : KeySize) where
       List·getD-append (identityCodings (32 * (r + 2))) (chunks r (λ l. identityRound)) 0 k (rw (codings-length (32 * (r + 2))) (omega arith))
       ∙ codings-at (32 * (r + 2)) k (omega arith)
 
-  behind : (l o : ℕ) → l < r → o < 408 → getD (drop (512 * (r + 2) + 408 * l) (identityChain z)) o 0 ≡ getD identityRound o 0
+  after : (l o : ℕ) → l < r → o < 408 → getD (drop (512 * (r + 2) + 408 * l) (identityChain z)) o 0 ≡ getD identityRound o 0
   unfolding identityChain
-  behind l o hl ho =
+  after l o hl ho =
       getD-drop (512 * (r + 2) + 408 * l) (identityChain z) o 0
       ∙ getD-second (identityCodings (32 * (r + 2))) (chunks r (λ l. identityRound)) (512 * (r + 2)) (l * 408 + o) (512 * (r + 2) + 408 * l + o)
       (codings-length (32 * (r + 2)) ∙ omega arith) (omega arith)
@@ -78,10 +77,10 @@ module _ (z : KeySize) where
 
   middle-at : (l i j v : ℕ) → l < r → i < 3 → j < 8 → v < 16 → middleSet r (identityChain z) l i j v ≡ v
   middle-at l i j v hl hi hj hv =
-      behind l (16 * (8 * i + j) + v) hl (omega arith) ∙ round-coding (16 * (8 * i + j) + v) (omega arith) ∙ omega arith
+      after l (16 * (8 * i + j) + v) hl (omega arith) ∙ round-coding (16 * (8 * i + j) + v) (omega arith) ∙ omega arith
 
   mask-at : (l i j : ℕ) → l < r → i < 3 → j < 8 → maskIn r (identityChain z) l i j ≡ 0
-  mask-at l i j hl hi hj = behind l (384 + (8 * i + j)) hl (omega arith) ∙ round-mask (8 * i + j)
+  mask-at l i j hl hi hj = after l (384 + (8 * i + j)) hl (omega arith) ∙ round-mask (8 * i + j)
 
   pub identity-valid : Chain z (identityChain z)
   identity-valid = record {
@@ -100,7 +99,7 @@ module _ (z : KeySize) where
 
 -- a book is built, into every buffer that has room for it
 pub met : (z : KeySize) (key : List ℕ) → sizeOfKey (length key) ≡ Found z → (out : List ℕ) → bookLength z ≤ length out
-    → Built key (identityChain z) out (bookOf (rounds z) (schedule z key) (identityChain z) ++ drop (bookLength z) out)
+    → Built key (identityChain z) out (bookOf (rounds z) (keyRows z key) (identityChain z) ++ drop (bookLength z) out)
 met z key e out h =
-    sym (built-done key (identityChain z) out bookLength (λ y. bookOf (rounds y) (schedule y key) (identityChain z)) z e (identity-valid z) h
-    (bookOf (rounds z) (schedule z key) (identityChain z)) refl)
+    sym (built-done key (identityChain z) out bookLength (λ y. bookOf (rounds y) (keyRows y key) (identityChain z)) z e (identity-valid z) h
+    (bookOf (rounds z) (keyRows z key) (identityChain z)) refl)

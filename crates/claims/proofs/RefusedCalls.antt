@@ -1,6 +1,5 @@
 -- Refused calls change nothing: the tags among the answers to a list of calls are those among the answers to its accepted calls
 -- alone.
--- Assumes nothing.
 use mathlib.Core.Path.{_≡_, refl, ap, _∙_}
 use mathlib.Core.Bool.{Bool, true, false, cond}
 use mathlib.Core.List.{List, [], _∷_}
@@ -10,7 +9,7 @@ use Rattle.cipher.specs.Coding.{Set}
 use Rattle.claims.specs.Model.{Call, blockCall, lastCall, Answer, accepted, tag, refused, State, refusals, blockTaken, tagOf, lastTaken, modelCall}
 use Rattle.claims.specs.Calls.{run, acceptedCalls, tagsOf}
 
--- an answer and a state behind the state s: the same s where the call was refused
+-- an answer and a state after the state s: the same s where the call was refused
 data Fair (s : State) : Answer × State → Type 0 where
   stays : {q : ℕ} → Fair s (refused q, s)
   takes : {s' : State} → Fair s (accepted, s')

@@ -1,13 +1,12 @@
 -- Demand 3's rounds (document 01, "The model session of demand 3", "After n rounds"): the book's first n rounds on any 16 bytes,
 -- decoded by set n, are the first n rounds of LEA on those bytes decoded by set 0. Said of any rows of round keys and any valid
 -- chain.
--- Assumes nothing.
 use mathlib.Core.Path.{_≡_, ap, _∙_}
 use mathlib.Core.List.{List}
 use Prim.Native.Nat.{ℕ, _≤_}
 use lib.ListN.{length}
 use Rattle.cipher.specs.KeySize.{rounds}
-use Rattle.cipher.specs.Schedule.{schedule}
+use Rattle.cipher.specs.Lea.{keyRows}
 use Rattle.cipher.specs.Coding.{decoded}
 use Rattle.cipher.specs.Chain.{chainSet, Chain}
 use Rattle.cipher.specs.Book.{Book}
@@ -28,6 +27,6 @@ after-rounds z rows ch bk v h b l n p q =
 
 -- for every key, chain and buffer with which a book is built
 pub after-rounds-built : (key ch out held : List ℕ) → Built key ch out held
-    → (b : List ℕ) → length b ≡ 16 → (n : ℕ) → 1 ≤ n → n ≤ keyRounds key → RoundsOfLea (schedule (keySize key) key) ch (bookIn key held) n b
+    → (b : List ℕ) → length b ≡ 16 → (n : ℕ) → 1 ≤ n → n ≤ keyRounds key → RoundsOfLea (keyRows (keySize key) key) ch (bookIn key held) n b
 after-rounds-built key ch out held h =
-    after-rounds (keySize key) (schedule (keySize key) key) ch (bookIn key held) (built-chain key ch out held h) (built-book key ch out held h)
+    after-rounds (keySize key) (keyRows (keySize key) key) ch (bookIn key held) (built-chain key ch out held h) (built-book key ch out held h)

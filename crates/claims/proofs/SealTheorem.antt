@@ -1,6 +1,5 @@
 -- Demand 3's sealed file (document 01, "The model session of demand 3"): what the driver seals of the pad's coding of a message,
 -- opened with the same key, set r and IV, gives the message and its length; of all refusals only 9 can be given on this way.
--- Assumes nothing.
 use mathlib.Core.Path.{_≡_, sym, ap, ap₂, _∙_}
 use mathlib.Core.Bool.{false}
 use mathlib.Core.List.{List, _++_, map, flatten}
@@ -9,7 +8,7 @@ use native.Mathlib.Omega.{arith}
 use lib.ListN.{length, drop}
 use Rattle.lists.specs.Blocks.{Bytes, blocks}
 use Rattle.cipher.specs.KeySize.{sizeOfBook}
-use Rattle.cipher.specs.Schedule.{schedule}
+use Rattle.cipher.specs.Lea.{keyRows}
 use Rattle.cipher.specs.Lea.{decipher}
 use Rattle.cipher.specs.Cbc.{cbcDeciphered}
 use Rattle.cipher.specs.Coding.{setOf}
@@ -17,7 +16,7 @@ use Rattle.cipher.specs.Chain.{messageSet, Chain}
 use Rattle.cipher.specs.Book.{Book}
 use Rattle.cipher.specs.Answers.{keySize, badText}
 use Rattle.cipher.specs.declared.size.SizeFound.the-variants.{Found}
-use Rattle.cipher.proofs.ScheduleLaws.{schedule-words}
+use Rattle.cipher.proofs.ScheduleLaws.{key-words}
 use Rattle.cipher.proofs.AnswerLaws.{text-good}
 use Rattle.pad.specs.Padding.{paddedForSealing, codedText}
 use Rattle.pad.specs.Answers.{sealingAnswer}
@@ -52,7 +51,7 @@ module _ (key ch out held : List ℕ) (built : Built key ch out held) (hk : Byte
   valid : Chain (keySize key) ch
   valid = built-chain key ch out held built
 
-  made : Book (keyRounds key) (schedule (keySize key) key) ch (bookIn key held)
+  made : Book (keyRounds key) (keyRows (keySize key) key) ch (bookIn key held)
   made = built-book key ch out held built
 
   code-is : codeOf u m ≡ codedText (messageSet ch) padded
@@ -65,7 +64,7 @@ module _ (key ch out held : List ℕ) (built : Built key ch out held) (hk : Byte
   pub file-length : length (fileOf (padSet ch) (bookIn key held) iv m) ≡ length (paddedForSealing m)
   file-length =
       ap (λ (c : List ℕ). length (sealed book iv c)) code-is
-      ∙ length-file (keySize key) (schedule (keySize key) key) ch book valid made (schedule-words (keySize key) key hk) iv padded (length m / 16 + 1) (sealing-blocks m)
+      ∙ length-file (keySize key) (keyRows (keySize key) key) ch book valid made (key-words (keySize key) key hk) iv padded (length m / 16 + 1) (sealing-blocks m)
 
   good : (n : ℕ) → n ≡ length padded → badText n ≡ false
   good n e =
@@ -75,7 +74,7 @@ module _ (key ch out held : List ℕ) (built : Built key ch out held) (hk : Byte
   unfolding openedText
   opened-is =
       ap₂ (λ (d : List ℕ → List ℕ) (c : List ℕ). flatten (cbcDeciphered (decipher (keySize key) key) (d iv) (map d (blocks (sealed book iv c))))) (archive-decoded key ch valid) code-is
-      ∙ opened-sealed (keySize key) (schedule (keySize key) key) ch book valid made (schedule-words (keySize key) key hk) iv padded (length m / 16 + 1) (sealing-blocks m)
+      ∙ opened-sealed (keySize key) (keyRows (keySize key) key) ch book valid made (key-words (keySize key) key hk) iv padded (length m / 16 + 1) (sealing-blocks m)
       (sealing-bytes m hm)
 
   message-back : unpadded (openedText (decipher (keySize key) key) (setOf s) iv (fileOf u book iv m)) ≡ m
@@ -89,7 +88,7 @@ module _ (key ch out held : List ℕ) (built : Built key ch out held) (hk : Byte
   }
 
   found : sizeOfBook (length book) ≡ Found (keySize key)
-  found = book-found (keySize key) (schedule (keySize key) key) ch book valid made
+  found = book-found (keySize key) (keyRows (keySize key) key) ch book valid made
 
   sealing-writes : Writes (sealAnswer book iv (codeOf u m)) (length (fileOf u book iv m)) (fileOf u book iv m)
   sealing-writes = record {

@@ -1,6 +1,5 @@
 -- What the driver seals of a coded text of whole blocks opens to the text; and of the padding, what the pad appends, the archive takes
 -- off. Said of any rows of round keys that are words, and any valid chain.
--- Assumes nothing.
 use mathlib.Core.Path.{_≡_, refl, sym, ap, ap₂, _∙_}
 use mathlib.Core.Bool.{true}
 use mathlib.Core.List.{List, [], _∷_, map, flatten}
@@ -25,7 +24,7 @@ use Rattle.cipher.proofs.CodingLaws.{block-decoded, decoded-coded}
 use Rattle.pad.specs.Padding.{paddedForSealing, lastByte, SealingPadded, stripped, codedText}
 use Rattle.pad.proofs.PadLaws.{strip-padded}
 use Rattle.pad.proofs.TextLaws.{blocks-coded}
-use Rattle.driver.specs.Driver.{pass, chainFrom, sealed}
+use Rattle.driver.specs.Driver.{pass, passedFrom, sealed}
 use Rattle.driver.proofs.PassLaws.{block-pass}
 use Rattle.archive.specs.Archive.{openedText, endsPadded, unpadded}
 use Rattle.claims.proofs.BookPasses.{last-permutes, pass-block}
@@ -49,15 +48,15 @@ unfolding xorBlock
 xor-block-comm a b = tab-ext 16 (λ k. bitXor (getD a k 0) (getD b k 0)) (λ k. bitXor (getD b k 0) (getD a k 0)) (λ k h. xor-comm (getD a k 0) (getD b k 0))
 
 module _ (bk : List ℕ) where
-  sealed-blocks : (x : List ℕ) (cs : List (List ℕ)) → Blocks (chainFrom (pass bk 0) x cs)
-  unfolding chainFrom
+  sealed-blocks : (x : List ℕ) (cs : List (List ℕ)) → Blocks (passedFrom (pass bk 0) x cs)
+  unfolding passedFrom
   sealed-blocks x [] = none
   sealed-blocks x (c ∷ cs) = more (block-pass bk 0 x c) (sealed-blocks (pass bk 0 x c) cs)
 
-  length-chain : (x : List ℕ) (cs : List (List ℕ)) → length (chainFrom (pass bk 0) x cs) ≡ length cs
-  unfolding chainFrom
-  length-chain x [] = refl
-  length-chain x (c ∷ cs) = ap suc (length-chain (pass bk 0 x c) cs)
+  length-passed : (x : List ℕ) (cs : List (List ℕ)) → length (passedFrom (pass bk 0) x cs) ≡ length cs
+  unfolding passedFrom
+  length-passed x [] = refl
+  length-passed x (c ∷ cs) = ap suc (length-passed (pass bk 0 x c) cs)
 
 module _ (z : KeySize) (rows : List (List ℕ)) (ch bk : List ℕ) (v : Chain z ch) (h : Book (rounds z) rows ch bk) (hr : RowsOfWords rows) where
   abbrev D : List ℕ → List ℕ
@@ -81,8 +80,8 @@ module _ (z : KeySize) (rows : List (List ℕ)) (ch bk : List ℕ) (v : Chain z 
       ∙ xor-block-cancel t X ht
 
   blocks-back : (x : List ℕ) (ts : List (List ℕ)) → Blocks ts
-      → cbcDeciphered D (decoded S x) (map (decoded S) (chainFrom (pass bk 0) x (map (coded U) ts))) ≡ ts
-  unfolding cbcDeciphered chainFrom
+      → cbcDeciphered D (decoded S x) (map (decoded S) (passedFrom (pass bk 0) x (map (coded U) ts))) ≡ ts
+  unfolding cbcDeciphered passedFrom
   blocks-back x [] none = refl
   blocks-back x (t ∷ ts) (more ht hs) =
       ap₂ {C = List (List ℕ)} (λ (a : List ℕ) (l : List (List ℕ)). a ∷ l) (block-back x t ht) (blocks-back (pass bk 0 x (coded U t)) ts hs)
@@ -90,16 +89,16 @@ module _ (z : KeySize) (rows : List (List ℕ)) (ch bk : List ℕ) (v : Chain z 
   -- a text of n whole blocks of bytes, coded under U, sealed and opened under set r
   module _ (iv text : List ℕ) (n : ℕ) (e : length text ≡ 16 * n) where
     abbrev chain : List (List ℕ)
-    chain = chainFrom (pass bk 0) iv (map (coded U) (blocks text))
+    chain = passedFrom (pass bk 0) iv (map (coded U) (blocks text))
 
     file-is : sealed bk iv (codedText U text) ≡ flatten chain
-    file-is = ap (λ (bs : List (List ℕ)). flatten (chainFrom (pass bk 0) iv bs)) (blocks-coded U (v .codings .message) text)
+    file-is = ap (λ (bs : List (List ℕ)). flatten (passedFrom (pass bk 0) iv bs)) (blocks-coded U (v .codings .message) text)
 
     pub length-file : length (sealed bk iv (codedText U text)) ≡ length text
     length-file =
         ap length file-is
         ∙ length-flatten chain (sealed-blocks bk iv (map (coded U) (blocks text)))
-        ∙ ap (λ (k : ℕ). 16 * k) (length-chain bk iv (map (coded U) (blocks text)) ∙ length-map (blocks text) (coded U) ∙ length-blocks text n e)
+        ∙ ap (λ (k : ℕ). 16 * k) (length-passed bk iv (map (coded U) (blocks text)) ∙ length-map (blocks text) (coded U) ∙ length-blocks text n e)
         ∙ sym e
 
     pub opened-sealed : Bytes text → openedText D S iv (sealed bk iv (codedText U text)) ≡ text

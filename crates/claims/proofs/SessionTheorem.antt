@@ -1,6 +1,5 @@
 -- Demand 3's list of calls (document 01, "The model session of demand 3"): for every list of calls the driver's answers, from a
 -- session just begun with the book, are the model's. Said of any rows of round keys and any valid chain.
--- Assumes nothing.
 use mathlib.Core.Path.{_≡_, refl, sym, ap, ap₂, _∙_}
 use mathlib.Core.Bool.{Bool, true, false}
 use mathlib.Core.List.{List, [], _∷_}
@@ -10,7 +9,7 @@ use native.Mathlib.Omega.{arith}
 use lib.ListN.{length}
 use Rattle.lists.specs.Blocks.{xorBlock}
 use Rattle.cipher.specs.KeySize.{rounds, sizeOfBook}
-use Rattle.cipher.specs.Schedule.{schedule}
+use Rattle.cipher.specs.Lea.{keyRows}
 use Rattle.cipher.specs.Lea.{firstRounds, encipher}
 use Rattle.cipher.specs.Coding.{Set, coded, decoded}
 use Rattle.cipher.specs.Chain.{messageSet, chainSet, Chain}
@@ -25,7 +24,7 @@ use Rattle.driver.specs.declared.session.Session.{Session}
 use Rattle.driver.proofs.PassLaws.{block-pass}
 use Rattle.driver.proofs.AnswerLaws.{begin-done, block-7, block-21, block-22, block-done, last-7, last-10, last-21, last-done}
 use Rattle.claims.specs.Model.{Call, blockCall, lastCall, Answer, tag, State, begun, kindKey, blockTaken, tagOf, modelCall}
-use Rattle.claims.specs.Calls.{answerOf, blockTold, lastTold, driverCall, run, driverAnswers, modelAnswers}
+use Rattle.claims.specs.Calls.{answerOf, blockReply, lastReply, driverCall, run, driverAnswers, modelAnswers}
 use Rattle.claims.specs.Built.{Built, bookIn, keyRounds}
 use Rattle.claims.proofs.BuiltLaws.{built-chain, built-book}
 use Rattle.claims.proofs.ModelCases.{model-block-7, model-block-21, model-block-22, model-block, model-last-7, model-last-10, model-last-21, model-last}
@@ -73,13 +72,13 @@ module _ (z : KeySize) (rows : List (List ℕ)) (ch bk : List ℕ) (v : Chain z 
   unfolding driverCall answerOf
   block-step m d x s = go (ℕ-discrete (length m) 16) (d .finished) refl (decLt (d .taken) 65535)
     where
-      go : Dec (length m ≡ 16) → (b : Bool) → d .finished ≡ b → Dec (d .taken < 65535) → Like (blockTold (blockAnswer bk m d)) (modelCall E U S (blockCall m) x)
-      go (no a) b e t = like (ap blockTold (block-7 bk m d z found a)) (model-block-7 E U S m x a) (refl, s)
-      go (yes a) true e t = like (ap blockTold (block-21 bk m d z found a e)) (model-block-21 E U S m x a (sym (s .ended) ∙ e)) (refl, s)
+      go : Dec (length m ≡ 16) → (b : Bool) → d .finished ≡ b → Dec (d .taken < 65535) → Like (blockReply (blockAnswer bk m d)) (modelCall E U S (blockCall m) x)
+      go (no a) b e t = like (ap blockReply (block-7 bk m d z found a)) (model-block-7 E U S m x a) (refl, s)
+      go (yes a) true e t = like (ap blockReply (block-21 bk m d z found a e)) (model-block-21 E U S m x a (sym (s .ended) ∙ e)) (refl, s)
       go (yes a) false e (no t) =
-          like (ap blockTold (block-22 bk m d z found a e (omega arith))) (model-block-22 E U S m x a (sym (s .ended) ∙ e) (omega (arith, s .taken))) (refl, s)
+          like (ap blockReply (block-22 bk m d z found a e (omega arith))) (model-block-22 E U S m x a (sym (s .ended) ∙ e) (omega (arith, s .taken))) (refl, s)
       go (yes a) false e (yes t) =
-          like (ap blockTold (block-done bk m d z found a e t)) (model-block E U S m x a (sym (s .ended) ∙ e) (omega (arith, s .taken))) (
+          like (ap blockReply (block-done bk m d z found a e t)) (model-block E U S m x a (sym (s .ended) ∙ e) (omega (arith, s .taken))) (
             refl,
             unfold blockTaken in record {
               held = pass-block z rows ch bk v h (d .block) m ∙ ap (λ (y : List ℕ). E (xorBlock y (decoded U m))) (s .held);
@@ -92,13 +91,13 @@ module _ (z : KeySize) (rows : List (List ℕ)) (ch bk : List ℕ) (v : Chain z 
   unfolding driverCall answerOf
   last-step m k d x s = go (ℕ-discrete (length m) 16) (decLt 1 k) (d .finished) refl
     where
-      go : Dec (length m ≡ 16) → Dec (1 < k) → (b : Bool) → d .finished ≡ b → Like (lastTold (lastAnswer bk m k d)) (modelCall E U S (lastCall m k) x)
-      go (no a) t b e = like (ap lastTold (last-7 bk m k d z found a)) (model-last-7 E U S m x k a) (refl, s)
-      go (yes a) (yes t) b e = like (ap lastTold (last-10 bk m k d z found a t)) (model-last-10 E U S m x a k t) (refl, s)
+      go : Dec (length m ≡ 16) → Dec (1 < k) → (b : Bool) → d .finished ≡ b → Like (lastReply (lastAnswer bk m k d)) (modelCall E U S (lastCall m k) x)
+      go (no a) t b e = like (ap lastReply (last-7 bk m k d z found a)) (model-last-7 E U S m x k a) (refl, s)
+      go (yes a) (yes t) b e = like (ap lastReply (last-10 bk m k d z found a t)) (model-last-10 E U S m x a k t) (refl, s)
       go (yes a) (no t) true e =
-          like (ap lastTold (last-21 bk m k d z found a (omega arith) e)) (model-last-21 E U S m x a k (omega arith) (sym (s .ended) ∙ e)) (refl, s)
+          like (ap lastReply (last-21 bk m k d z found a (omega arith) e)) (model-last-21 E U S m x a k (omega arith) (sym (s .ended) ∙ e)) (refl, s)
       go (yes a) (no t) false e =
-          like (ap lastTold (last-done bk m k d z found a (omega arith) e)) (model-last E U S m x a k (omega arith) (sym (s .ended) ∙ e))
+          like (ap lastReply (last-done bk m k d z found a (omega arith) e)) (model-last E U S m x a k (omega arith) (sym (s .ended) ∙ e))
           (ap {B = Answer} tag (tag-same m k d x s (omega arith)), record { held = s .held; taken = s .taken; ended = refl })
 
   step : (c : Call) (d : Session) (x : State) → Same d x → Like (driverCall bk c d) (modelCall E U S c x)
@@ -123,4 +122,4 @@ module _ (z : KeySize) (rows : List (List ℕ)) (ch bk : List ℕ) (v : Chain z 
 pub session-built : (key ch out held : List ℕ) → Built key ch out held → (cs : List Call)
     → driverAnswers (bookIn key held) cs ≡ modelAnswers (encipher (keySize key) key) (messageSet ch) (chainSet ch (keyRounds key)) cs
 session-built key ch out held b cs =
-    session (keySize key) (schedule (keySize key) key) ch (bookIn key held) (built-chain key ch out held b) (built-book key ch out held b) cs
+    session (keySize key) (keyRows (keySize key) key) ch (bookIn key held) (built-chain key ch out held b) (built-book key ch out held b) cs

@@ -1,14 +1,13 @@
 -- Demand 3's tag (document 01, demand 3 and "The model session of demand 3"): for every message and every list of calls of which
 -- the message's coded blocks and kind, in order, are what the driver accepts, there is exactly one tag among the answers; checking
 -- says Valid to it and Invalid to every other 16 bytes. And the plain list of the message's calls is one such list.
--- Assumes nothing.
 use mathlib.Core.Path.{_≡_, refl, sym, ap, _∙_}
 use mathlib.Core.Bool.{Bool, true, false, cond}
 use mathlib.Core.List.{List, map, flatten}
 use Prim.Native.Nat.{ℕ, _≤_}
 use lib.ListN.{length}
 use Rattle.lists.specs.Blocks.{Bytes, Block, blocks}
-use Rattle.cipher.specs.Schedule.{schedule}
+use Rattle.cipher.specs.Lea.{keyRows}
 use Rattle.cipher.specs.Lea.{encipher}
 use Rattle.cipher.specs.Cmac.{cmac}
 use Rattle.cipher.specs.Coding.{Set, Permutations, setOf, coded, decoded}
@@ -67,7 +66,7 @@ module _ (key ch out held : List ℕ) (built : Built key ch out held) (m : List 
   permutes = last-permutes (keySize key) ch valid-chain
 
   block-mac : Block (cmac (encipher (keySize key) key) m)
-  block-mac = block-cmac (schedule (keySize key) key) (keyRounds key) m
+  block-mac = block-cmac (keyRows (keySize key) key) (keyRounds key) m
 
   verdict : (t : List ℕ) → length t ≡ 16 → checkAnswer key (archiveSet key ch) m t ≡ (0, cond (sameBlock (decoded S t) (cmac E m)) 1 0)
   verdict t l =

@@ -1,12 +1,11 @@
 -- What is built (document 01, "The model session of demand 3"): a key and a chain with which building answers 0, the book that
 -- the buffer then holds, and the two sets of the chain that come alone.
--- Assumes nothing.
 use mathlib.Core.Path.{_≡_}
 use mathlib.Core.List.{List}
 use Prim.Native.Nat.{ℕ, suc, _*_}
 use lib.ListN.{take, drop}
 use Rattle.cipher.specs.KeySize.{rounds, bookLength}
-use Rattle.cipher.specs.Chain.{setLength}
+use Rattle.cipher.specs.Lengths.{setLength}
 use Rattle.cipher.specs.Answers.{keySize}
 use Rattle.book.specs.Answers.{buildAnswer}
 

@@ -1,6 +1,5 @@
 -- Lists of calls (document 01, "The model session of demand 3"): on the driver's session, on the model, and the list that a
 -- message makes.
--- Assumes nothing.
 use mathlib.Core.Path.{_≡_}
 use mathlib.Core.List.{List, [], _∷_}
 use Prim.Native.Nat.{ℕ, zero, suc}
@@ -17,16 +16,16 @@ unfoldable pub answerOf : ℕ → Answer → Answer
 answerOf zero a = a
 answerOf (suc q) a = refused (suc q)
 
-abbrev pub blockTold : ℕ × Session → Answer × Session
-blockTold r = (answerOf (r .0) accepted, r .1)
+abbrev pub blockReply : ℕ × Session → Answer × Session
+blockReply r = (answerOf (r .0) accepted, r .1)
 
-abbrev pub lastTold : (ℕ × List ℕ) × Session → Answer × Session
-lastTold r = (answerOf (r .0 .0) (tag (r .0 .1)), r .1)
+abbrev pub lastReply : (ℕ × List ℕ) × Session → Answer × Session
+lastReply r = (answerOf (r .0 .0) (tag (r .0 .1)), r .1)
 
 -- a call on the driver's session, by the book
 unfoldable pub driverCall : List ℕ → Call → Session → Answer × Session
-driverCall bk (blockCall m) s = blockTold (blockAnswer bk m s)
-driverCall bk (lastCall m k) s = lastTold (lastAnswer bk m k s)
+driverCall bk (blockCall m) s = blockReply (blockAnswer bk m s)
+driverCall bk (lastCall m k) s = lastReply (lastAnswer bk m k s)
 
 -- the answers to a list of calls, in their order: each call gets what the one before it left
 unfoldable pub run : {S : Type 0} → (Call → S → Answer × S) → List Call → S → List Answer

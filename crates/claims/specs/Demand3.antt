@@ -1,19 +1,19 @@
 -- Demand 3 whole (document 01, "The model session of demand 3"), for a key, a chain and the book bk that is built from them. The
 -- pad gets the chain's message set U, the archive its set r; what the calls answer are the definitions that the contracts of
 -- the running functions name.
--- Assumes nothing.
 use mathlib.Core.Path.{_≡_}
 use mathlib.Core.List.{List}
 use Prim.Native.Nat.{ℕ, _≤_}
 use lib.ListN.{length, take}
-use Rattle.lists.specs.Blocks.{Bytes, blocks}
-use Rattle.cipher.specs.Schedule.{schedule}
+use Rattle.lists.specs.Blocks.{Bytes, blocks, blockLength}
+use Rattle.cipher.specs.Lengths.{longestMessage}
+use Rattle.cipher.specs.Lea.{keyRows}
 use Rattle.cipher.specs.Lea.{firstRounds, encipher}
 use Rattle.cipher.specs.Coding.{setOf, decoded}
 use Rattle.cipher.specs.Chain.{messageSet, chainSet}
 use Rattle.cipher.specs.Answers.{keySize}
-use Rattle.pad.specs.Answers.{longest, tagAnswer}
-use Rattle.driver.specs.Driver.{roundsAnswer, begunOver}
+use Rattle.pad.specs.Answers.{tagAnswer}
+use Rattle.driver.specs.Driver.{runRoundsAnswer, begunOver}
 use Rattle.driver.specs.declared.session.Session.{Session}
 use Rattle.claims.specs.Model.{Call, Answer}
 use Rattle.claims.specs.Calls.{driverAnswers, Lent, modelAnswers, callsOf, messageCalls, acceptedCalls}
@@ -25,7 +25,7 @@ use Rattle.claims.specs.Sealing.{SealedWay}
 -- the rows, of b decoded by set 0
 abbrev pub RoundsOfLea : List (List ℕ) → List ℕ → List ℕ → ℕ → List ℕ → Type 0
 RoundsOfLea rows ch bk n b =
-    ((roundsAnswer bk n b) .0 ≡ 0) × (decoded (chainSet ch n) ((roundsAnswer bk n b) .1) ≡ firstRounds rows n (decoded (chainSet ch 0) b))
+    ((runRoundsAnswer bk n b) .0 ≡ 0) × (decoded (chainSet ch n) ((runRoundsAnswer bk n b) .1) ≡ firstRounds rows n (decoded (chainSet ch 0) b))
 
 -- the calls of a message under the chain's message set
 abbrev pub callsUnder : List ℕ → List ℕ → List Call
@@ -38,18 +38,18 @@ LentLikeModel key ch bk q s =
 
 pub record Demand3 (key ch bk : List ℕ) : Type 0 where
   -- the rounds, n from 1 to r
-  pub after-rounds : (b : List ℕ) → length b ≡ 16 → (n : ℕ) → 1 ≤ n → n ≤ keyRounds key → RoundsOfLea (schedule (keySize key) key) ch bk n b
+  pub after-rounds : (b : List ℕ) → length b ≡ blockLength → (n : ℕ) → 1 ≤ n → n ≤ keyRounds key → RoundsOfLea (keyRows (keySize key) key) ch bk n b
   -- lists of calls: all answers of the driver, in their order, are the model's
   pub session : (cs : List Call) → driverAnswers bk cs ≡ modelAnswers (encipher (keySize key) key) (messageSet ch) (chainSet ch (keyRounds key)) cs
   -- and on a session that is lent, whatever it held before it was begun
   pub lent : (s₀ s : Session) (q : ℕ) → (q, s) ≡ begunOver bk s₀ → LentLikeModel key ch bk q s
   -- every list of calls of which a message's are the accepted ones gives its tag
-  pub tag : (m : List ℕ) → Bytes m → length m ≤ longest → (cs : List Call) → acceptedCalls cs (driverAnswers bk cs) ≡ callsUnder ch m
+  pub tag : (m : List ℕ) → Bytes m → length m ≤ longestMessage → (cs : List Call) → acceptedCalls cs (driverAnswers bk cs) ≡ callsUnder ch m
       → OneTag key (archiveSet key ch) m (driverAnswers bk cs)
   -- the plain list of a message's calls is one such list
-  pub taken : (m : List ℕ) → Bytes m → length m ≤ longest → acceptedCalls (callsUnder ch m) (driverAnswers bk (callsUnder ch m)) ≡ callsUnder ch m
+  pub taken : (m : List ℕ) → Bytes m → length m ≤ longestMessage → acceptedCalls (callsUnder ch m) (driverAnswers bk (callsUnder ch m)) ≡ callsUnder ch m
   -- and it is made of what the pad writes: n bytes of the buffer, and the kind k
-  pub coded : (m : List ℕ) → length m ≤ longest → (o held : List ℕ) (n k : ℕ) → tagAnswer (padSet ch) m o ≡ ((0, (n, k)), held)
+  pub coded : (m : List ℕ) → length m ≤ longestMessage → (o held : List ℕ) (n k : ℕ) → tagAnswer (padSet ch) m o ≡ ((0, (n, k)), held)
       → callsOf k (blocks (take n held)) ≡ callsUnder ch m
   -- the sealed file opens to the message
-  pub seal : (m iv : List ℕ) → Bytes m → length m ≤ longest → length iv ≡ 16 → SealedWay key (padSet ch) (archiveSet key ch) bk iv m
+  pub seal : (m iv : List ℕ) → Bytes m → length m ≤ longestMessage → length iv ≡ blockLength → SealedWay key (padSet ch) (archiveSet key ch) bk iv m

@@ -1,15 +1,15 @@
 -- The identity chain (document 01, "Table of examples", its first paragraph).
--- Assumes nothing.
 use mathlib.Core.List.{List, _++_}
 use Prim.Native.Nat.{ℕ, _+_, _*_, _%_}
 use lib.ListN.{replicate}
+use Rattle.cipher.specs.Lengths.{codingLength}
 use Rattle.lists.specs.Tabulation.{tab, chunks}
 use Rattle.cipher.specs.KeySize.{rounds}
 use Rattle.cipher.specs.declared.size.KeySize.{KeySize}
 
 -- n codings, each of which leaves every number as it is
 unfoldable pub identityCodings : ℕ → List ℕ
-identityCodings n = tab (16 * n) (λ k. k % 16)
+identityCodings n = tab (codingLength * n) (λ k. k % 16)
 
 -- a round's middle codings and masks
 unfoldable pub identityRound : List ℕ

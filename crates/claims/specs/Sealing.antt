@@ -1,6 +1,5 @@
 -- The way of a sealed file (document 01, "The model session of demand 3", its last paragraph but one): a message is coded for
 -- sealing under U, sealed by the driver from an IV, and opened; what the three calls are to answer.
--- Assumes nothing.
 use mathlib.Core.Path.{_≡_}
 use mathlib.Core.List.{List, _++_}
 use Prim.Native.Nat.{ℕ, _≤_, _<_}

@@ -1,5 +1,4 @@
 -- The tag of a message and its check under the same key and set r (document 01, demand 3 and "The model session of demand 3").
--- Assumes nothing.
 use mathlib.Core.Path.{_≡_}
 use mathlib.Core.List.{List, [], _∷_}
 use Prim.Native.Nat.{ℕ}

@@ -1,6 +1,5 @@
 -- The answers of the driver, case by case. For each operation the cases exclude each other and leave none out, so each
 -- refusal is given exactly under its condition.
--- Assumes nothing.
 use mathlib.Core.Path.{_≡_, refl, sym, ap, ap₂, _∙_}
 use mathlib.Core.Bool.{Bool, true, false, cond, not, _||_}
 use mathlib.Core.List.{List, [], _++_, flatten}
@@ -16,14 +15,15 @@ use Rattle.lists.specs.Refusals.{first}
 use Rattle.lists.proofs.RefusalLaws.{first-hit, first-pass}
 use Rattle.cipher.specs.KeySize.{rounds, bookLength, sizeOfBook}
 use Rattle.cipher.specs.Tables.{tableRound, tableRounds}
-use Rattle.cipher.specs.Book.{roundLength, startOf, roundAt}
+use Rattle.cipher.specs.Book.{startOf, roundAt}
+use Rattle.cipher.specs.Lengths.{roundLength}
 use Rattle.cipher.specs.Answers.{blockTests, badText, textTests, roomTests}
 use Rattle.cipher.specs.declared.size.KeySize.{KeySize}
 use Rattle.cipher.specs.declared.size.KeySize.the-variants.{Bytes16, Bytes24, Bytes32}
 use Rattle.cipher.specs.declared.size.SizeFound.the-variants.{Found, Unknown}
 use Rattle.cipher.proofs.KeySizeLaws.{found-length, none-of, one-of}
 use Rattle.cipher.proofs.AnswerLaws.{at-most, at-most-all, block-refused, block-taken, text-known, text-refused, text-taken, room-refused, room-taken}
-use Rattle.driver.specs.Driver.{bookTests, tablesTests, roundsOf, roundAnswer, roundsAnswer, pass, chainFrom, sealed, sealAnswer, fresh, spent, moved, closed, begunOver, beginAnswer, kindTests, finishedTests, fullTests, blockAnswer, lastAnswer}
+use Rattle.driver.specs.Driver.{bookTests, tablesTests, roundsOf, runRoundAnswer, runRoundsAnswer, pass, passedFrom, sealed, sealAnswer, fresh, spent, moved, closed, begunOver, beginAnswer, kindTests, finishedTests, fullTests, blockAnswer, lastAnswer}
 use Rattle.driver.specs.declared.session.Session.{Session}
 use Rattle.driver.proofs.PassLaws.{rounds-found}
 
@@ -42,19 +42,19 @@ module _ {A : Type 0} (bk : List ℕ) (ts : List (Bool × ℕ)) (refuse : ℕ �
 -- ---- a block by the tables of one round
 
 module _ (t b : List ℕ) where
-  pub round-6 : (length t ≡ roundLength → ⊥) → roundAnswer t b ≡ (6, zeros)
-  unfolding roundAnswer
+  pub round-6 : (length t ≡ roundLength → ⊥) → runRoundAnswer t b ≡ (6, zeros)
+  unfolding runRoundAnswer
   round-6 h = first-hit (not (eqb (length t) roundLength)) 6 (blockTests b) (λ q. (q, zeros)) (0, tableRound t b) (ap not (ne-eqb (length t) roundLength h))
 
   module _ (l : length t ≡ roundLength) where
-    taken : roundAnswer t b ≡ first (blockTests b) (λ q. (q, zeros)) (0, tableRound t b)
-    unfolding roundAnswer
+    taken : runRoundAnswer t b ≡ first (blockTests b) (λ q. (q, zeros)) (0, tableRound t b)
+    unfolding runRoundAnswer
     taken = first-pass (not (eqb (length t) roundLength)) 6 (blockTests b) (λ q. (q, zeros)) (0, tableRound t b) (ap not (eq-eqb (length t) roundLength l))
 
-    pub round-7 : (length b ≡ 16 → ⊥) → roundAnswer t b ≡ (7, zeros)
+    pub round-7 : (length b ≡ 16 → ⊥) → runRoundAnswer t b ≡ (7, zeros)
     round-7 h = taken ∙ block-refused b [] (λ q. (q, zeros)) (0, tableRound t b) h
 
-    pub round-done : length b ≡ 16 → roundAnswer t b ≡ (0, tableRound t b)
+    pub round-done : length b ≡ 16 → runRoundAnswer t b ≡ (0, tableRound t b)
     unfolding first
     round-done h = taken ∙ block-taken b [] (λ q. (q, zeros)) (0, tableRound t b) h
 
@@ -64,27 +64,27 @@ module _ (bk : List ℕ) (n : ℕ) (b : List ℕ) where
   result : ℕ × List ℕ
   result = (0, tableRounds (roundAt bk) (cond (leb n (roundsOf bk)) n (roundsOf bk)) b)
 
-  pub rounds-6 : sizeOfBook (length bk) ≡ Unknown → roundsAnswer bk n b ≡ (6, zeros)
-  unfolding roundsAnswer result
+  pub rounds-6 : sizeOfBook (length bk) ≡ Unknown → runRoundsAnswer bk n b ≡ (6, zeros)
+  unfolding runRoundsAnswer result
   rounds-6 e = book-refused bk (blockTests b) (λ q. (q, zeros)) result e
 
   module _ (z : KeySize) (e : sizeOfBook (length bk) ≡ Found z) where
-    pub rounds-7 : (length b ≡ 16 → ⊥) → roundsAnswer bk n b ≡ (7, zeros)
-    unfolding roundsAnswer result
+    pub rounds-7 : (length b ≡ 16 → ⊥) → runRoundsAnswer bk n b ≡ (7, zeros)
+    unfolding runRoundsAnswer result
     rounds-7 h = book-taken bk (blockTests b) (λ q. (q, zeros)) result z e ∙ block-refused b [] (λ q. (q, zeros)) result h
 
     module _ (h : length b ≡ 16) where
-      rounds-taken : roundsAnswer bk n b ≡ (0, tableRounds (roundAt bk) (cond (leb n (rounds z)) n (rounds z)) b)
-      unfolding roundsAnswer result first
+      rounds-taken : runRoundsAnswer bk n b ≡ (0, tableRounds (roundAt bk) (cond (leb n (rounds z)) n (rounds z)) b)
+      unfolding runRoundsAnswer result first
       rounds-taken =
           book-taken bk (blockTests b) (λ q. (q, zeros)) result z e
           ∙ block-taken b [] (λ q. (q, zeros)) result h
           ∙ ap (λ (r : ℕ). (0, tableRounds (roundAt bk) (cond (leb n r) n r) b)) (rounds-found z bk e)
 
-      pub rounds-some : n ≤ rounds z → roundsAnswer bk n b ≡ (0, tableRounds (roundAt bk) n b)
+      pub rounds-some : n ≤ rounds z → runRoundsAnswer bk n b ≡ (0, tableRounds (roundAt bk) n b)
       rounds-some l = rounds-taken ∙ ap (λ (k : ℕ). (0, tableRounds (roundAt bk) k b)) (at-most n (rounds z) l)
 
-      pub rounds-all : rounds z < n → roundsAnswer bk n b ≡ (0, tableRounds (roundAt bk) (rounds z) b)
+      pub rounds-all : rounds z < n → runRoundsAnswer bk n b ≡ (0, tableRounds (roundAt bk) (rounds z) b)
       rounds-all l = rounds-taken ∙ ap (λ (k : ℕ). (0, tableRounds (roundAt bk) k b)) (at-most-all n (rounds z) l)
 
 -- ---- sealing
@@ -131,13 +131,13 @@ module _ (bk iv cs out : List ℕ) where
 
         -- as the code makes it
         pub seal-made : length cs ≤ length out → (x : List ℕ) → x ≡ take 16 (drop 0 iv) → (o : List ℕ)
-            → o ≡ flatten (chainFrom (pass bk 0) x (cut (length cs / 16) cs)) ++ drop (16 * (length cs / 16)) out
+            → o ≡ flatten (passedFrom (pass bk 0) x (cut (length cs / 16) cs)) ++ drop (16 * (length cs / 16)) out
             → ((0, length cs), o) ≡ sealAnswer bk iv cs out
         unfolding blocks
         seal-made h x ex o eo =
             let n : 16 * (length cs / 16) ≡ length cs = omega (arith, text-known (length cs) d .2) in
             ap (λ (l : List ℕ). ((0, length cs), l))
-            (eo ∙ ap₂ (λ (y : List ℕ) (k : ℕ). flatten (chainFrom (pass bk 0) y (cut (length cs / 16) cs)) ++ drop k out) (ex ∙ whole iv l) n)
+            (eo ∙ ap₂ (λ (y : List ℕ) (k : ℕ). flatten (passedFrom (pass bk 0) y (cut (length cs / 16) cs)) ++ drop k out) (ex ∙ whole iv l) n)
             ∙ sym (seal-done h)
 
 -- ---- beginning

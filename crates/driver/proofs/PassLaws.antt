@@ -1,5 +1,4 @@
 -- A fold and all rounds of a book together.
--- Assumes nothing.
 use mathlib.Core.Path.{_≡_, sym, ap, ap₂, _∙_}
 use mathlib.Core.List.{List}
 use Prim.Native.Nat.{ℕ, _+_, _-_, _*_, _/_}
@@ -15,7 +14,7 @@ use Rattle.cipher.specs.declared.size.SizeFound.the-variants.{Found}
 use Rattle.cipher.proofs.CodingLaws.{block-halves}
 use Rattle.cipher.proofs.FoldLaw.{fold-lt}
 use Rattle.cipher.proofs.KeySizeLaws.{found-length}
-use Rattle.lookup.proofs.RoundLaws.{block-rounds}
+use Rattle.table_reader.proofs.RoundLaws.{block-rounds}
 use Rattle.driver.specs.Driver.{roundsOf, pass}
 
 -- the rounds of a book of a known length

@@ -1,6 +1,5 @@
 -- The driver (document 01, "Pad, driver, archive", "Refusals from the input" and "from the state"): what each of its
 -- operations answers, from a book (01's term) of any bytes.
--- Assumes nothing.
 use mathlib.Core.Bool.{Bool, true, false, cond, not, _||_}
 use mathlib.Core.List.{List, [], _∷_, _++_, flatten}
 use Prim.Native.Nat.{ℕ, suc, _-_, _/_}
@@ -9,7 +8,8 @@ use lib.ListN.{length, drop}
 use Rattle.lists.specs.Blocks.{zeros, blocks}
 use Rattle.lists.specs.Refusals.{first}
 use Rattle.cipher.specs.Tables.{tableRound, tableRounds, tableFold}
-use Rattle.cipher.specs.Book.{roundsStart, roundLength, startOf, groupAt, roundAt}
+use Rattle.cipher.specs.Book.{startOf, groupAt, roundAt}
+use Rattle.cipher.specs.Lengths.{roundsStart, roundLength}
 use Rattle.cipher.specs.KeySize.{bookLength}
 use Rattle.cipher.specs.Refusal.{outcomeOf}
 use Rattle.cipher.specs.Answers.{blockTold, blockTests, textTests, roomTests}
@@ -32,12 +32,12 @@ unfoldable pub roundsOf : List ℕ → ℕ
 roundsOf bk = (length bk - roundsStart) / roundLength
 
 -- a block by the tables of one round
-unfoldable pub roundAnswer : List ℕ → List ℕ → ℕ × List ℕ
-roundAnswer t b = first (tablesTests t ++ blockTests b) (λ q. (q, zeros)) (0, tableRound t b)
+unfoldable pub runRoundAnswer : List ℕ → List ℕ → ℕ × List ℕ
+runRoundAnswer t b = first (tablesTests t ++ blockTests b) (λ q. (q, zeros)) (0, tableRound t b)
 
 -- a block by the first n rounds of a book, all of them where n is more
-unfoldable pub roundsAnswer : List ℕ → ℕ → List ℕ → ℕ × List ℕ
-roundsAnswer bk n b =
+unfoldable pub runRoundsAnswer : List ℕ → ℕ → List ℕ → ℕ × List ℕ
+runRoundsAnswer bk n b =
     first (bookTests bk ++ blockTests b) (λ q. (q, zeros)) (0, tableRounds (roundAt bk) (cond (leb n (roundsOf bk)) n (roundsOf bk)) b)
 
 -- ---- sealing
@@ -46,14 +46,14 @@ roundsAnswer bk n b =
 unfoldable pub pass : List ℕ → ℕ → List ℕ → List ℕ → List ℕ
 pass bk g x m = tableRounds (roundAt bk) (roundsOf bk) (tableFold (groupAt bk g) x m)
 
--- blocks in a chain from a block x: each is passed through together with the result before it
-unfoldable pub chainFrom : (List ℕ → List ℕ → List ℕ) → List ℕ → List (List ℕ) → List (List ℕ)
-chainFrom step x [] = []
-chainFrom step x (m ∷ ms) = step x m ∷ chainFrom step (step x m) ms
+-- blocks from a block x on: each is passed through together with the result before it
+unfoldable pub passedFrom : (List ℕ → List ℕ → List ℕ) → List ℕ → List (List ℕ) → List (List ℕ)
+passedFrom step x [] = []
+passedFrom step x (m ∷ ms) = step x m ∷ passedFrom step (step x m) ms
 
 -- the coded blocks sealed from an IV: every block is folded in by group one
 abbrev pub sealed : List ℕ → List ℕ → List ℕ → List ℕ
-sealed bk iv coded = flatten (chainFrom (pass bk 0) iv (blocks coded))
+sealed bk iv coded = flatten (passedFrom (pass bk 0) iv (blocks coded))
 
 -- sealing into a buffer: the number of a refusal or 0, how many bytes were written, and what the buffer then holds
 abbrev pub sealTests : List ℕ → List ℕ → List ℕ → List ℕ → List (Bool × ℕ)

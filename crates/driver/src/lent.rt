@@ -6,7 +6,7 @@ ghost use Rattle.cipher.specs.Answers.{blockTold};
 ghost use Rattle.driver.specs.Driver as D;
 use crate::session::Session;
 use crate::session::begin_over;
-use cipher::lea::BlockAnswer;
+use cipher::answer::BlockAnswer;
 use cipher::refusal::Outcome;
 
 // A fresh session on a book into the record, whatever it held. A refusal leaves it as it was.

@@ -4,16 +4,17 @@ ghost use Prim.Native.Nat.{_<_};
 ghost use lib.ListN.{length};
 ghost use Rattle.cipher.specs.KeySize as S;
 ghost use Rattle.driver.specs.Driver as D;
+use cipher::lengths;
 use cipher::size::KeySize;
-use lookup::fold::fold;
-use lookup::round::rounds;
+use table_reader::fold::fold;
+use table_reader::round::rounds;
 
 // The block y folded into x by group g, and the result taken through all rounds.
 pub fn pass(size: KeySize, book: &[u8], g: usize, x: [u8; 16], y: [u8; 16]) -> [u8; 16]
     requires { ⌜ (g < 3) × (length (now book) ≡ S.bookLength size) ⌝ }
     ensures { λ r. ⌜ r ≡ D.pass (now (book .entry)) g x y ⌝ }
 {
-    let at = KeySize::START + KeySize::GROUP * g;
+    let at = lengths::START + lengths::GROUP * g;
     let z = fold(&book[at..], x, y);
     rounds(book, size.rounds(), z)
 }

@@ -2,16 +2,17 @@
 // refuses tables of a wrong length (6), then a block that is not of 16 bytes (7).
 ghost use mathlib.Core.Path.{_≡_};
 ghost use Rattle.cipher.specs.Answers.{blockTold};
-ghost use Rattle.driver.specs.Driver.{roundAnswer, roundsAnswer};
+ghost use Rattle.driver.specs.Driver.{runRoundAnswer, runRoundsAnswer};
+use cipher::answer::BlockAnswer;
+use cipher::answer::refused;
 use cipher::block::block_at;
-use cipher::lea::BlockAnswer;
-use cipher::lea::refused;
+use cipher::lengths;
 use cipher::refusal::Outcome;
 use cipher::refusal::Refusal;
 use cipher::size::KeySize;
 use cipher::size::SizeFound;
-use lookup::round::rounds;
-use lookup::round::step;
+use table_reader::round::rounds;
+use table_reader::round::step;
 
 fn done(block: [u8; 16]) -> BlockAnswer
     ensures { λ r. ⌜ blockTold r ≡ (0, block) ⌝ }
@@ -24,12 +25,12 @@ fn done(block: [u8; 16]) -> BlockAnswer
 
 // A block by the tables of one round.
 pub fn run_round(tables: &[u8], block: &[u8]) -> BlockAnswer
-    ensures { λ r. ⌜ blockTold r ≡ roundAnswer (now (tables .entry)) (now (block .entry)) ⌝ }
+    ensures { λ r. ⌜ blockTold r ≡ runRoundAnswer (now (tables .entry)) (now (block .entry)) ⌝ }
 {
-    if tables.len() != KeySize::ROUND_TABLES {
+    if tables.len() != lengths::ROUND_TABLES {
         return refused(Refusal::BookLength);
     }
-    if block.len() != 16 {
+    if block.len() != lengths::BLOCK {
         return refused(Refusal::BlockLength);
     }
     let mut y = block_at(block, 0);
@@ -39,12 +40,12 @@ pub fn run_round(tables: &[u8], block: &[u8]) -> BlockAnswer
 
 // A block by the first n rounds of a book, all of them where n is more.
 pub fn run_rounds(book: &[u8], n: usize, block: &[u8]) -> BlockAnswer
-    ensures { λ r. ⌜ blockTold r ≡ roundsAnswer (now (book .entry)) n (now (block .entry)) ⌝ }
+    ensures { λ r. ⌜ blockTold r ≡ runRoundsAnswer (now (book .entry)) n (now (block .entry)) ⌝ }
 {
     let SizeFound::Found(size) = KeySize::of_book_len(book.len()) else {
         return refused(Refusal::BookLength);
     };
-    if block.len() != 16 {
+    if block.len() != lengths::BLOCK {
         return refused(Refusal::BlockLength);
     }
     let all = size.rounds();

@@ -3,7 +3,7 @@ ghost use mathlib.Core.Path.{_≡_};
 ghost use mathlib.Core.List.{_++_, flatten};
 ghost use Prim.Native.Nat.{_*_, _≤_};
 ghost use lib.ListN.{length, drop};
-ghost use Rattle.lists.specs.Blocks.{cut};
+ghost use Rattle.lists.specs.Blocks.{cut, blockLength};
 ghost use Rattle.cipher.specs.KeySize as S;
 ghost use Rattle.cipher.specs.Refusal.{writtenOf};
 ghost use Rattle.driver.specs.Driver as D;
@@ -11,22 +11,20 @@ use crate::pass::pass;
 use cipher::block::bad_text;
 use cipher::block::block_at;
 use cipher::block::put_block;
+use cipher::lengths;
 use cipher::refusal::Refusal;
 use cipher::refusal::Written;
 use cipher::size::KeySize;
 use cipher::size::SizeFound;
 
-// A block, in bytes.
-const BLOCK: usize = 16;
-
 // The first n coded blocks sealed into the front of out.
 fn seal_blocks(size: KeySize, book: &[u8], iv: [u8; 16], coded: &[u8], n: usize, out: &mut [u8])
-    requires { ⌜ (length (now book) ≡ S.bookLength size) × (n ≤ 65536) × (16 * n ≤ length (now coded)) × (16 * n ≤ length (now out)) ⌝ }
-    ensures { λ _. ⌜ now (out .exit) ≡ flatten (D.chainFrom (D.pass (now (book .entry)) 0) iv (cut n (now (coded .entry)))) ++ drop (16 * n) (now (out .entry)) ⌝ }
+    requires { ⌜ (length (now book) ≡ S.bookLength size) × (n ≤ 65536) × (blockLength * n ≤ length (now coded)) × (blockLength * n ≤ length (now out)) ⌝ }
+    ensures { λ _. ⌜ now (out .exit) ≡ flatten (D.passedFrom (D.pass (now (book .entry)) 0) iv (cut n (now (coded .entry)))) ++ drop (blockLength * n) (now (out .entry)) ⌝ }
 {
     let mut x = iv;
     for k in 0..n {
-        let at = BLOCK * k;
+        let at = lengths::BLOCK * k;
         let y = pass(size, book, 0, x, block_at(coded, at));
         put_block(out, at, y);
         x = y;
@@ -40,7 +38,7 @@ pub fn seal(book: &[u8], iv: &[u8], coded: &[u8], out: &mut [u8]) -> Written
     let SizeFound::Found(size) = KeySize::of_book_len(book.len()) else {
         return Written::Refused(Refusal::BookLength);
     };
-    if iv.len() != BLOCK {
+    if iv.len() != lengths::BLOCK {
         return Written::Refused(Refusal::BlockLength);
     }
     let n = coded.len();
@@ -50,6 +48,6 @@ pub fn seal(book: &[u8], iv: &[u8], coded: &[u8], out: &mut [u8]) -> Written
     if out.len() < n {
         return Written::Refused(Refusal::ShortBuffer);
     }
-    seal_blocks(size, book, block_at(iv, 0), coded, n / BLOCK, out);
+    seal_blocks(size, book, block_at(iv, 0), coded, n / lengths::BLOCK, out);
     Written::Bytes(n)
 }

@@ -6,9 +6,10 @@ ghost use Rattle.cipher.specs.Refusal.{numberOf};
 ghost use Rattle.lists.specs.Blocks.{zeros};
 ghost use Rattle.driver.specs.Driver as D;
 use crate::pass::pass;
+use cipher::answer::BlockAnswer;
+use cipher::answer::refused;
 use cipher::block::block_at;
-use cipher::lea::BlockAnswer;
-use cipher::lea::refused;
+use cipher::lengths;
 use cipher::refusal::Outcome;
 use cipher::refusal::Refusal;
 use cipher::size::KeySize;
@@ -81,7 +82,7 @@ pub fn block_call(s: Session, book: &[u8], block: &[u8]) -> SessionAnswer
     let SizeFound::Found(size) = KeySize::of_book_len(book.len()) else {
         return kept(s, Refusal::BookLength);
     };
-    if block.len() != 16 {
+    if block.len() != lengths::BLOCK {
         return kept(s, Refusal::BlockLength);
     }
     if s.finished {
@@ -119,7 +120,7 @@ pub fn last_call(s: Session, book: &[u8], block: &[u8], kind: u8) -> TagAnswer
     let SizeFound::Found(size) = KeySize::of_book_len(book.len()) else {
         return no_tag(s, Refusal::BookLength);
     };
-    if block.len() != 16 {
+    if block.len() != lengths::BLOCK {
         return no_tag(s, Refusal::BlockLength);
     }
     if kind > 1 {

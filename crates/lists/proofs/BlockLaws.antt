@@ -1,5 +1,4 @@
 -- Laws of blocks of 16 bytes: xor, and a text cut into its blocks and put together again.
--- Assumes nothing.
 use mathlib.Core.Path.{_≡_, refl, sym, ap, _∙_}
 use mathlib.Core.List.{List, [], _∷_, _++_, flatten, append-assoc, append-nil}
 use Prim.Native.Nat.{ℕ, zero, suc, _+_, _*_, _/_, _<_}
@@ -72,7 +71,7 @@ pub blocks-flatten : (bs : List (List ℕ)) → Blocks bs → blocks (flatten bs
 unfolding blocks
 blocks-flatten bs h = let e : length (flatten bs) / 16 ≡ length bs = omega (arith, length-flatten bs h) in rw e (cut-flatten bs h)
 
--- bytes and bytes behind them
+-- bytes and bytes after them
 pub bytes-append : (a b : List ℕ) → Bytes a → Bytes b → Bytes (a ++ b)
 bytes-append [] b ha hb k = hb k
 bytes-append (x ∷ a) b ha hb zero = ha zero

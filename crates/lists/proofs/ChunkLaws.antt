@@ -1,6 +1,5 @@
 -- Laws of `chunks`, lists of one length s put one after another: the length, an element, a chunk cut out; a tabulation is
 -- made of chunks; an element of the second of two lists.
--- Assumes nothing.
 use mathlib.Core.Path.{_≡_, refl, sym, ap, ap₂, _∙_}
 use mathlib.Core.Logic.{⊎-elim}
 use mathlib.Core.List.{List, [], _∷_, _++_, append-assoc, append-nil}

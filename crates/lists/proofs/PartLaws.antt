@@ -1,6 +1,5 @@
 -- A buffer that a loop fills from the front: what is written so far, then what it held before. One law for each way
 -- in which one turn of a loop writes more: an element, a part that was lent, an element of an array that held z.
--- Assumes nothing.
 use mathlib.Core.Path.{_≡_, refl, sym, ap, _∙_}
 use mathlib.Core.List.{List, [], _∷_, _++_, append-assoc, append-nil}
 use Prim.Native.Nat.{ℕ, zero, suc, _+_, _-_, _*_, _≤_, _<_}

@@ -1,6 +1,5 @@
 -- Laws of `first`: a test that applies decides, one that does not is passed over, and where none applies the call goes on. What is
 -- made of an answer is made of each refusal and of what was asked for.
--- Assumes nothing.
 use mathlib.Core.Path.{_≡_, refl, _∙_}
 use mathlib.Core.Bool.{Bool, true, false, cond}
 use mathlib.Core.List.{List, [], _∷_}

@@ -1,5 +1,4 @@
 -- Laws of `tab`: its length, its elements, and when two tabulations, or a tabulation and a list, are equal.
--- Assumes nothing.
 use mathlib.Core.Path.{_≡_, refl, sym, ap, ap₂, _∙_}
 use mathlib.Core.Logic.{⊎-elim}
 use mathlib.Core.List.{List, [], _∷_, _++_}

@@ -1,5 +1,4 @@
 -- Bytes, and blocks of 16 of them.
--- Assumes nothing.
 use mathlib.Core.Path.{_≡_}
 use mathlib.Core.List.{List, [], _∷_}
 use Prim.Native.Nat.{ℕ, zero, suc, _*_, _/_, _<_}
@@ -15,28 +14,32 @@ Below b l = (k : ℕ) → getD l k 0 < b
 abbrev pub Bytes : List ℕ → Type 0
 Bytes l = Below 256 l
 
--- 16 bytes
+-- how many bytes a block has
+abbrev pub blockLength : ℕ
+blockLength = 16
+
+-- a block
 pub record Block (b : List ℕ) : Type 0 where
-  pub size : length b ≡ 16
+  pub size : length b ≡ blockLength
   pub bytes : Bytes b
 
 -- sixteen zero bytes
 abbrev pub zeros : List ℕ
-zeros = replicate 16 0
+zeros = replicate blockLength 0
 
 -- the xor of two blocks, byte by byte
 unfoldable pub xorBlock : List ℕ → List ℕ → List ℕ
-xorBlock a b = tab 16 (λ k. bitXor (getD a k 0) (getD b k 0))
+xorBlock a b = tab blockLength (λ k. bitXor (getD a k 0) (getD b k 0))
 
 -- block k of l
 abbrev pub blockOf : List ℕ → ℕ → List ℕ
-blockOf l k = take 16 (drop (16 * k) l)
+blockOf l k = take blockLength (drop (blockLength * k) l)
 
 -- the first n blocks of l
 unfoldable pub cut : ℕ → List ℕ → List (List ℕ)
 cut zero l = []
-cut (suc n) l = take 16 l ∷ cut n (drop 16 l)
+cut (suc n) l = take blockLength l ∷ cut n (drop blockLength l)
 
 -- the whole blocks of l, in order
 unfoldable pub blocks : List ℕ → List (List ℕ)
-blocks l = cut (length l / 16) l
+blocks l = cut (length l / blockLength) l

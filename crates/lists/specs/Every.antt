@@ -1,5 +1,4 @@
 -- A test made of all the numbers below n. It grows at the end, as a loop that tests one after another does.
--- Assumes nothing.
 use mathlib.Core.Bool.{Bool, true, _&&_}
 use Prim.Native.Nat.{ℕ, zero, suc}
 

@@ -1,5 +1,4 @@
 -- Half bytes of a number, lowest first. Both definitions recurse from the low end, so each law is one induction.
--- Assumes nothing.
 use Prim.Native.Nat.{ℕ, zero, suc, _+_, _*_, _/_, _%_}
 
 -- half byte j of w

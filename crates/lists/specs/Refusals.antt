@@ -1,7 +1,6 @@
 -- Refusals (document 01, "Refusals from the input" and "from the state"): of the numbers that apply the lowest is
 -- given, and a number only where its condition holds. An operation's refusals are a list of tests, each with its
 -- number, in the order of the numbers; the first test that applies decides.
--- Assumes nothing.
 use mathlib.Core.Bool.{Bool, cond}
 use mathlib.Core.List.{List, [], _∷_}
 use Prim.Native.Nat.{ℕ}

@@ -1,5 +1,4 @@
 -- Lists given by a rule for each place. Both grow at the end, as a loop that fills a buffer does.
--- Assumes nothing.
 use mathlib.Core.List.{List, [], _∷_, _++_}
 use Prim.Native.Nat.{ℕ, zero, suc}
 

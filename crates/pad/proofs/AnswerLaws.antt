@@ -1,6 +1,5 @@
 -- The answers of the pad's two codings, case by case (document 01, "Refusals from the input", numbers 2, 3, 8 and 9). The cases
 -- exclude each other and leave none out, so each refusal is given exactly under its condition.
--- Assumes nothing.
 use mathlib.Core.Path.{_≡_, sym, ap, ap₂, _∙_}
 use mathlib.Core.List.{List, [], _∷_, _++_}
 use Prim.Native.Nat.{ℕ, _+_, _*_, _≤_, _<_}
@@ -12,7 +11,8 @@ use Rattle.lists.specs.Refusals.{first}
 use Rattle.lists.proofs.RefusalLaws.{Clear, first-hit, first-pass}
 use Rattle.cipher.specs.Refusal.{numberOf, outcomeOf}
 use Rattle.cipher.specs.Coding.{Permutations, LowSet, setOf, byteCoded}
-use Rattle.cipher.specs.Chain.{setLength, LoneSet, setTests}
+use Rattle.cipher.specs.Chain.{LoneSet, setTests}
+use Rattle.cipher.specs.Lengths.{longestMessage, setLength}
 use Rattle.cipher.proofs.InverseLaws.{low-set}
 use Rattle.cipher.proofs.ChainTests.{set-tested}
 use Rattle.cipher.proofs.ChainRefusals.{set-length-refused, set-coding-refused, set-taken}
@@ -23,7 +23,7 @@ use Rattle.cipher.specs.declared.refusal.Refusal.{Refusal}
 use Rattle.cipher.proofs.AnswerLaws.{number-more}
 use Rattle.pad.specs.CodedParts.{codedPart}
 use Rattle.pad.specs.Padding.{codedText, paddedForSealing, paddedForTag, kindOf}
-use Rattle.pad.specs.Answers.{longest, codingTests, codedInto, sealingAnswer, tagAnswer}
+use Rattle.pad.specs.Answers.{codingTests, codedInto, sealingAnswer, tagAnswer}
 use Rattle.pad.proofs.CodedPartLaws.{part-blocks}
 
 -- ---- the tests: for a set u, a message of n bytes, and total bytes to be written where there is room for some
@@ -31,23 +31,23 @@ use Rattle.pad.proofs.CodedPartLaws.{part-blocks}
 module _ {A : Type 0} (u : List ℕ) (n total room : ℕ) (refuse : ℕ → A) (go : A) where
   pub tests-set-length : (length u ≡ setLength → ⊥) → first (codingTests u n total room) refuse go ≡ refuse 2
   unfolding codingTests
-  tests-set-length h = set-length-refused ((ltb longest n, 8) ∷ (ltb room total, 9) ∷ []) refuse go u h
+  tests-set-length h = set-length-refused ((ltb longestMessage n, 8) ∷ (ltb room total, 9) ∷ []) refuse go u h
 
   pub tests-set-coding : length u ≡ setLength → (Permutations (setOf u) → ⊥) → first (codingTests u n total room) refuse go ≡ refuse 3
   unfolding codingTests
-  tests-set-coding h p = set-coding-refused ((ltb longest n, 8) ∷ (ltb room total, 9) ∷ []) refuse go u h p
+  tests-set-coding h p = set-coding-refused ((ltb longestMessage n, 8) ∷ (ltb room total, 9) ∷ []) refuse go u h p
 
   module _ (v : LoneSet u) where
-    set-fine : first (codingTests u n total room) refuse go ≡ first ((ltb longest n, 8) ∷ (ltb room total, 9) ∷ []) refuse go
+    set-fine : first (codingTests u n total room) refuse go ≡ first ((ltb longestMessage n, 8) ∷ (ltb room total, 9) ∷ []) refuse go
     unfolding codingTests
-    set-fine = set-taken ((ltb longest n, 8) ∷ (ltb room total, 9) ∷ []) refuse go u v
+    set-fine = set-taken ((ltb longestMessage n, 8) ∷ (ltb room total, 9) ∷ []) refuse go u v
 
-    pub tests-long : longest < n → first (codingTests u n total room) refuse go ≡ refuse 8
-    tests-long h = set-fine ∙ first-hit (ltb longest n) 8 ((ltb room total, 9) ∷ []) refuse go (lt-ltb longest n h)
+    pub tests-long : longestMessage < n → first (codingTests u n total room) refuse go ≡ refuse 8
+    tests-long h = set-fine ∙ first-hit (ltb longestMessage n) 8 ((ltb room total, 9) ∷ []) refuse go (lt-ltb longestMessage n h)
 
-    module _ (l : n ≤ longest) where
+    module _ (l : n ≤ longestMessage) where
       length-fine : first (codingTests u n total room) refuse go ≡ first ((ltb room total, 9) ∷ []) refuse go
-      length-fine = set-fine ∙ first-pass (ltb longest n) 8 ((ltb room total, 9) ∷ []) refuse go (le-ltb longest n l)
+      length-fine = set-fine ∙ first-pass (ltb longestMessage n) 8 ((ltb room total, 9) ∷ []) refuse go (le-ltb longestMessage n l)
 
       pub tests-short : room < total → first (codingTests u n total room) refuse go ≡ refuse 9
       tests-short h = length-fine ∙ first-hit (ltb room total) 9 [] refuse go (lt-ltb room total h)
@@ -68,11 +68,11 @@ module _ {A : Type 0} (nothing told : A) (u m text out : List ℕ) where
   coded-set-coding h p = tests-set-coding u (length m) (length text) (length out) (λ q. ((q, nothing), out)) ((0, told), codedText (setOf u) text ++ drop (length text) out) h p
 
   module _ (v : LoneSet u) where
-    pub coded-long : longest < length m → codedInto nothing told u m text out ≡ ((8, nothing), out)
+    pub coded-long : longestMessage < length m → codedInto nothing told u m text out ≡ ((8, nothing), out)
     unfolding codedInto
     coded-long h = tests-long u (length m) (length text) (length out) (λ q. ((q, nothing), out)) ((0, told), codedText (setOf u) text ++ drop (length text) out) v h
 
-    module _ (l : length m ≤ longest) where
+    module _ (l : length m ≤ longestMessage) where
       pub coded-short : length out < length text → codedInto nothing told u m text out ≡ ((9, nothing), out)
       unfolding codedInto
       coded-short h = tests-short u (length m) (length text) (length out) (λ q. ((q, nothing), out)) ((0, told), codedText (setOf u) text ++ drop (length text) out) v l h
@@ -97,13 +97,13 @@ module _ (u m out : List ℕ) where
   tag-set-coding h p = coded-set-coding (0, 0) (length (paddedForTag m), kindOf (length m)) u m (paddedForTag m) out h p
 
   module _ (v : LoneSet u) where
-    pub sealing-long : longest < length m → sealingAnswer u m out ≡ ((8, 0), out)
+    pub sealing-long : longestMessage < length m → sealingAnswer u m out ≡ ((8, 0), out)
     sealing-long h = coded-long 0 (length (paddedForSealing m)) u m (paddedForSealing m) out v h
 
-    pub tag-long : longest < length m → tagAnswer u m out ≡ ((8, (0, 0)), out)
+    pub tag-long : longestMessage < length m → tagAnswer u m out ≡ ((8, (0, 0)), out)
     tag-long h = coded-long (0, 0) (length (paddedForTag m), kindOf (length m)) u m (paddedForTag m) out v h
 
-    module _ (l : length m ≤ longest) where
+    module _ (l : length m ≤ longestMessage) where
       pub sealing-short : length out < length (paddedForSealing m) → sealingAnswer u m out ≡ ((9, 0), out)
       sealing-short h = coded-short 0 (length (paddedForSealing m)) u m (paddedForSealing m) out v l h
 
@@ -125,7 +125,7 @@ module _ (u : List ℕ) (n total room : ℕ) where
   pub admit-set : (q k : ℕ) → q ≡ first (setTests u) (λ k. k) 0 → k ≡ q → (k ≡ 0 → ⊥) → first (codingTests u n total room) (λ k. k) 0 ≡ q
   unfolding codingTests
   admit-set q k e d h =
-      told-refused ((ltb longest n, 8) ∷ (ltb room total, 9) ∷ []) (λ k. k) 0 (setTests u) q (omega arith) (sym e)
+      told-refused ((ltb longestMessage n, 8) ∷ (ltb room total, 9) ∷ []) (λ k. k) 0 (setTests u) q (omega arith) (sym e)
 
   numbered : Numbered (codingTests u n total room)
   unfolding codingTests setTests
@@ -138,12 +138,12 @@ module _ (u : List ℕ) (n total room : ℕ) where
         told-refused [] refuse go (codingTests u n total room) (numberOf q) (number-more q) (sym e ∙ ap outcomeOf d)
 
     -- the set is one, the message not too long, and there is room
-    pub admitted : r ≡ Done → LoneSet u × (n ≤ longest) × (total ≤ room)
+    pub admitted : r ≡ Done → LoneSet u × (n ≤ longestMessage) × (total ≤ room)
     unfolding codingTests setTests
     admitted d = parts (told-clear (codingTests u n total room) numbered (sym e ∙ ap outcomeOf d))
       where
-        parts : Clear (codingTests u n total room) → LoneSet u × (n ≤ longest) × (total ≤ room)
-        parts c = (set-tested u (c .0, (c .1 .0, tt)), ltb-false longest n (c .1 .1 .0), ltb-false room total (c .1 .1 .1 .0))
+        parts : Clear (codingTests u n total room) → LoneSet u × (n ≤ longestMessage) × (total ≤ room)
+        parts c = (set-tested u (c .0, (c .1 .0, tt)), ltb-false longestMessage n (c .1 .1 .0), ltb-false room total (c .1 .1 .1 .0))
 
     pub admitted-low : r ≡ Done → (512 ≤ length u) × LowSet u × (total ≤ room)
     admitted-low d =

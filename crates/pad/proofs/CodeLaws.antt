@@ -1,6 +1,5 @@
 -- What the two codings of a message are to whoever gets them: as many bytes as the padded message, at least one block and at
 -- most 65,536; block by block the padded message's blocks, coded by the set; and decoded by it the padded message.
--- Assumes nothing.
 use mathlib.Core.Path.{_≡_, ap, _∙_}
 use mathlib.Core.List.{List, map}
 use Prim.Native.Nat.{ℕ, _+_, _-_, _*_, _/_}

@@ -1,6 +1,5 @@
 -- Why the code codes a text as it does: the loops that look bytes up in a table of images, and that parts of a text coded byte by
 -- byte make the text coded block by block.
--- Assumes nothing.
 use mathlib.Core.Path.{_≡_, refl, sym, ap, ap₂, _∙_}
 use mathlib.Core.List.{List, [], _∷_, _++_, map, flatten, append-assoc, append-nil}
 use Prim.Native.Nat.{ℕ, zero, suc, _+_, _-_, _*_, _/_, _%_, _≤_, _<_}
@@ -141,7 +140,7 @@ module _ (t text : List ℕ) where
       let z : a ≡ n * 16 = omega arith in
       e ∙ ap₂ {C = List ℕ} (λ (j i : ℕ). chunks j blockImages ++ drop i d) q z ∙ ap {B = List ℕ} (λ x. x ++ drop (n * 16) d) (blocks-part n h)
 
--- ---- a buffer in whose front parts of a text are coded, one behind the other
+-- ---- a buffer in whose front parts of a text are coded, one after the other
 
 -- a of n bytes was coded, which left mid, and then b
 next-part : (f : ℕ → ℕ → ℕ) (a b out mid end : List ℕ) (n : ℕ) → length a ≡ n → mid ≡ codedPart f 0 a ++ drop n out
@@ -150,7 +149,7 @@ next-part : (f : ℕ → ℕ → ℕ) (a b out mid end : List ℕ) (n : ℕ) →
 next-part f a b out mid end n la e g =
     g
     ∙ ap {B = List ℕ} (λ x. take n x ++ (codedPart f n b ++ drop (n + length b) x)) e
-    ∙ rw (take-at p (drop n out) n l, behind) (sym (append-assoc p (codedPart f n b) (drop (n + length b) out)))
+    ∙ rw (take-at p (drop n out) n l, after) (sym (append-assoc p (codedPart f n b) (drop (n + length b) out)))
     ∙ ap {B = List ℕ} (λ x. x ++ drop (n + length b) out) (ap (λ (k : ℕ). p ++ codedPart f k b) (sym la) ∙ parts-joined f a b)
   where
     p : List ℕ
@@ -159,8 +158,8 @@ next-part f a b out mid end n la e g =
     l : length p ≡ n
     l = length-part f 0 a ∙ la
 
-    behind : drop (n + length b) (p ++ drop n out) ≡ drop (n + length b) out
-    behind =
+    after : drop (n + length b) (p ++ drop n out) ≡ drop (n + length b) out
+    after =
         sym (drop-drop (length b) n (p ++ drop n out)) ∙ ap (drop (length b)) (drop-at p (drop n out) n l) ∙ drop-drop (length b) n out
 
 -- by the table of s the whole blocks of m, which left x, then its last w bytes, which left y, then b

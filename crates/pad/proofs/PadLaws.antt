@@ -1,6 +1,5 @@
 -- Laws of padding: a padded message is whole blocks, 1 to 65,536 of them; what PKCS#7 adds can be told from the text, and
 -- taking it off gives the message.
--- Assumes nothing.
 use mathlib.Core.Path.{_≡_, refl, sym, ap, _∙_}
 use mathlib.Core.Bool.{Bool, true, false, cond, not, _&&_}
 use mathlib.Core.List.{List, [], _∷_, _++_}

@@ -1,5 +1,4 @@
 -- Laws of coded texts: the coded blocks are blocks, and decoding them by the set gives the text.
--- Assumes nothing.
 use mathlib.Core.Path.{_≡_, refl, sym, ap, ap₂, _∙_}
 use mathlib.Core.List.{List, [], _∷_, map, flatten}
 use Prim.Native.Nat.{ℕ, _*_}

@@ -6,9 +6,10 @@ ghost use Prim.Native.Nat.{_+_, _≤_, _<_};
 ghost use Rattle.lists.specs.Refusals.{first};
 ghost use Rattle.cipher.specs.Refusal.{outcomeOf, writtenOf};
 ghost use Rattle.pad.specs.Padding.{kindOf, tagAdded};
-ghost use Rattle.pad.specs.Answers.{codingTests, tagTold, sealingAnswer, tagAnswer};
+ghost use Rattle.pad.specs.Answers.{codingTests, tagCodeTold, sealingAnswer, tagAnswer};
 use crate::text::code_text;
 use cipher::chain::check_set;
+use cipher::lengths;
 use cipher::refusal::Outcome;
 use cipher::refusal::Refusal;
 use cipher::refusal::Written;
@@ -20,11 +21,6 @@ pub enum TagCode {
     Refused(Refusal),
 }
 
-// The longest message, in bytes.
-const LONGEST: usize = 1048575;
-// A block, in bytes.
-const BLOCK: usize = 16;
-
 // What both codings refuse: the set (2, 3), a message of n bytes (8), the room for it and the
 // added bytes (9).
 fn admit(u: &[u8], n: usize, added: usize, room: usize) -> Outcome
@@ -35,7 +31,7 @@ fn admit(u: &[u8], n: usize, added: usize, room: usize) -> Outcome
     if checked.number() != 0 {
         return checked;
     }
-    if LONGEST < n {
+    if lengths::LONGEST_MESSAGE < n {
         return Outcome::Refused(Refusal::MessageLength);
     }
     if room < n + added {
@@ -59,7 +55,7 @@ fn kind_of(n: usize) -> u8
     if n == 0 {
         return 1;
     }
-    if n % BLOCK == 0 { 0 } else { 1 }
+    if n % lengths::BLOCK == 0 { 0 } else { 1 }
 }
 
 // How many bytes are added to a message of n bytes and of a kind.
@@ -67,7 +63,11 @@ fn tag_added(n: usize, kind: u8) -> usize
     requires { ⌜ kind ≡ kindOf n ⌝ }
     ensures { λ r. ⌜ r ≡ tagAdded n ⌝ }
 {
-    if kind == 0 { 0 } else { BLOCK - n % BLOCK }
+    if kind == 0 {
+        0
+    } else {
+        lengths::BLOCK - n % lengths::BLOCK
+    }
 }
 
 // A message padded by PKCS#7 and coded by the set u, into the front of out.
@@ -75,7 +75,7 @@ pub fn code_for_sealing(u: &[u8], message: &[u8], out: &mut [u8]) -> Written
     ensures { λ r. ⌜ (writtenOf r, now (out .exit)) ≡ sealingAnswer (now (u .entry)) (now (message .entry)) (now (out .entry)) ⌝ }
 {
     let n = message.len();
-    let added = BLOCK - n % BLOCK;
+    let added = lengths::BLOCK - n % lengths::BLOCK;
     if let Outcome::Refused(why) = admit(u, n, added, out.len()) {
         return Written::Refused(why);
     }
@@ -86,7 +86,7 @@ pub fn code_for_sealing(u: &[u8], message: &[u8], out: &mut [u8]) -> Written
 
 // A message padded for a tag and coded by the set u, into the front of out.
 pub fn code_for_tag(u: &[u8], message: &[u8], out: &mut [u8]) -> TagCode
-    ensures { λ r. ⌜ (tagTold r, now (out .exit)) ≡ tagAnswer (now (u .entry)) (now (message .entry)) (now (out .entry)) ⌝ }
+    ensures { λ r. ⌜ (tagCodeTold r, now (out .exit)) ≡ tagAnswer (now (u .entry)) (now (message .entry)) (now (out .entry)) ⌝ }
 {
     let n = message.len();
     let kind = kind_of(n);

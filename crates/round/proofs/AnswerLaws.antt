@@ -1,6 +1,5 @@
 -- What the round program prints, case by case. The cases exclude each other and leave none out, so each refusal is given
 -- exactly under its condition.
--- Assumes nothing.
 use mathlib.Core.Path.{_≡_, refl, sym, ap, ap₂, _∙_}
 use mathlib.Core.Bool.{Bool, not}
 use mathlib.Core.List.{List, [], _∷_, _++_}
@@ -25,7 +24,7 @@ use Rattle.cipher.proofs.AnswerLaws.{length-refused, length-taken, block-refuse
 use Rattle.cipher.proofs.ChainRefusals.{chain-length-refused, chain-taken}
 use Rattle.cipher.proofs.CheckLaws.{told-refused}
 use Rattle.round.specs.Text.{line, refusedText}
-use Rattle.round.specs.Round.{tablesOf, laterRounds, openedAfter, twoLines, lengthByte, keyPart, behindKey, chainPart, blockPart, keyWhole, restTests, printed, printedOn, printedBehind}
+use Rattle.round.specs.Round.{tablesOf, laterRounds, openedAfter, twoLines, lengthByte, keyPart, afterKey, chainPart, blockPart, keyWhole, restTests, printed, printedOn, printedAfter}
 use Rattle.round.proofs.RoundLaws.{all-rounds}
 
 -- ---- length byte and key
@@ -41,10 +40,10 @@ module _ (i : List ℕ) where
   key = keyPart (lengthByte i) i
 
   abbrev pub tests : KeySize → List (Bool × ℕ)
-  tests z = keyWhole (lengthByte i) key ++ restTests z (chainPart z (behindKey (lengthByte i) i)) (blockPart z (behindKey (lengthByte i) i))
+  tests z = keyWhole (lengthByte i) key ++ restTests z (chainPart z (afterKey (lengthByte i) i)) (blockPart z (afterKey (lengthByte i) i))
 
   abbrev pub lines : KeySize → List ℕ
-  lines z = twoLines z key (chainPart z (behindKey (lengthByte i) i)) (blockPart z (behindKey (lengthByte i) i))
+  lines z = twoLines z key (chainPart z (afterKey (lengthByte i) i)) (blockPart z (afterKey (lengthByte i) i))
 
   pub printed-length : sizeOfKey (lengthByte i) ≡ Unknown → printed i ≡ refusedText 1
   unfolding printed
@@ -58,20 +57,20 @@ module _ (i : List ℕ) where
 
     pub printed-key : (length key ≡ lengthByte i → ⊥) → printed i ≡ refusedText 1
     printed-key h =
-        length-known ∙ first-hit (not (eqb (length key) (lengthByte i))) 1 (restTests z (chainPart z (behindKey (lengthByte i) i)) (blockPart z (behindKey (lengthByte i) i)))
+        length-known ∙ first-hit (not (eqb (length key) (lengthByte i))) 1 (restTests z (chainPart z (afterKey (lengthByte i) i)) (blockPart z (afterKey (lengthByte i) i)))
         refusedText (lines z) (ap not (ne-eqb (length key) (lengthByte i) h))
 
-    pub printed-behind : length key ≡ lengthByte i → printed i ≡ printedBehind z key (behindKey (lengthByte i) i)
-    unfolding printedBehind printedOn
-    printed-behind h =
-        length-known ∙ first-pass (not (eqb (length key) (lengthByte i))) 1 (restTests z (chainPart z (behindKey (lengthByte i) i)) (blockPart z (behindKey (lengthByte i) i)))
+    pub printed-after : length key ≡ lengthByte i → printed i ≡ printedAfter z key (afterKey (lengthByte i) i)
+    unfolding printedAfter printedOn
+    printed-after h =
+        length-known ∙ first-pass (not (eqb (length key) (lengthByte i))) 1 (restTests z (chainPart z (afterKey (lengthByte i) i)) (blockPart z (afterKey (lengthByte i) i)))
         refusedText (lines z) (ap not (eq-eqb (length key) (lengthByte i) h))
 
--- ---- what is behind the key
+-- ---- what is after the key
 
-pub behind-short : (z : KeySize) (key s : List ℕ) → length s < chainLength z → printedBehind z key s ≡ refusedText 2
-unfolding printedBehind printedOn
-behind-short z key s h =
+pub after-short : (z : KeySize) (key s : List ℕ) → length s < chainLength z → printedAfter z key s ≡ refusedText 2
+unfolding printedAfter printedOn
+after-short z key s h =
     let e : length (chainPart z s) ≡ length s = ap length (take-all (chainLength z) s (omega arith)) in
     chain-length-refused (blockTests (blockPart z s)) refusedText (twoLines z key (chainPart z s) (blockPart z s)) z (chainPart z s) (λ d. omega arith)
 
@@ -96,10 +95,10 @@ module _ (z : KeySize) (key ch s : List ℕ) where
 
 -- ---- the parts as the code lends them
 
-pub behind-is : (z : KeySize) (key s : List ℕ) (n : ℕ) → n ≡ chainLength z
-    → printedOn z key (take (n - 0) s) (take (length s - n) (drop n s)) ≡ printedBehind z key s
-unfolding printedBehind
-behind-is z key s n e =
+pub after-is : (z : KeySize) (key s : List ℕ) (n : ℕ) → n ≡ chainLength z
+    → printedOn z key (take (n - 0) s) (take (length s - n) (drop n s)) ≡ printedAfter z key s
+unfolding printedAfter
+after-is z key s n e =
     let d : n - 0 ≡ chainLength z = omega arith in
     ap₂ (printedOn z key) (ap (λ (k : ℕ). take k s) d) (part-end s n ∙ ap (λ (k : ℕ). drop k s) e)
 
@@ -109,8 +108,8 @@ module _ (i : List ℕ) (n : ℕ) (e : n ≡ lengthByte i) where
       let d : 1 + n - 1 ≡ lengthByte i = omega arith in
       ap (λ (k : ℕ). take k (drop 1 i)) d
 
-  pub input-is : (z : KeySize) → printedBehind z (take (1 + n - 1) (drop 1 i)) (take (length i - (1 + n)) (drop (1 + n) i)) ≡ printedBehind z (keyPart (lengthByte i) i) (behindKey (lengthByte i) i)
-  input-is z = ap₂ (printedBehind z) key-is (part-end i (1 + n) ∙ ap (λ (k : ℕ). drop (1 + k) i) e)
+  pub input-is : (z : KeySize) → printedAfter z (take (1 + n - 1) (drop 1 i)) (take (length i - (1 + n)) (drop (1 + n) i)) ≡ printedAfter z (keyPart (lengthByte i) i) (afterKey (lengthByte i) i)
+  input-is z = ap₂ (printedAfter z) key-is (part-end i (1 + n) ∙ ap (λ (k : ℕ). drop (1 + k) i) e)
 
   -- all bytes of the key are there, or some are missing
   pub key-whole : 1 + n ≤ length i → length (keyPart (lengthByte i) i) ≡ lengthByte i

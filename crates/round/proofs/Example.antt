@@ -1,6 +1,5 @@
 -- Document 01's example of the round program, by computation: its two lines are printed for every input of a 16-byte key K under
 -- whose chain the coded block decodes to 101112..1f, as it does under the identity chain that the program is run on.
--- Assumes nothing.
 use mathlib.Core.Path.{_≡_, refl, ap, ap₂, _∙_}
 use mathlib.Core.List.{List, [], _∷_, _++_}
 use Prim.Native.Nat.{ℕ}

@@ -1,6 +1,5 @@
 -- Later bytes do not matter (document 01, "Table of examples": "later bytes unread"): what the program reads by the first byte
--- decides what it prints, whatever comes behind.
--- Assumes nothing.
+-- decides what it prints, whatever comes after.
 use mathlib.Core.Path.{_≡_, refl, sym, ap, _∙_}
 use mathlib.Core.List.{List, [], _∷_, _++_}
 use Prim.Native.Nat.{ℕ, zero, suc, _+_, _≤_}
@@ -14,7 +13,7 @@ use Rattle.cipher.specs.declared.size.SizeFound.{SizeFound}
 use Rattle.cipher.specs.declared.size.SizeFound.the-variants.{Found, Unknown}
 use Rattle.cipher.proofs.KeySizeLaws.{found-length}
 use Rattle.round.specs.Text.{refusedText}
-use Rattle.round.specs.Round.{twoLines, lengthByte, keyPart, behindKey, chainPart, blockPart, keyWhole, restTests, printed, wantedOf, wanted}
+use Rattle.round.specs.Round.{twoLines, lengthByte, keyPart, afterKey, chainPart, blockPart, keyWhole, restTests, printed, wantedOf, wanted}
 use Rattle.round.proofs.AnswerLaws.{printed-length, length-known}
 
 -- a part that ends before m
@@ -36,10 +35,10 @@ module _ (i : List ℕ) (m : ℕ) (h : wanted (lengthByte i) ≤ m) where
       let b : lengthByte (take m i) ≡ n = byte-kept (omega arith) in
       let p : keyPart (lengthByte (take m i)) (take m i) ≡ keyPart n i =
       ap (λ (x : ℕ). keyPart x (take m i)) b ∙ part-front 1 n m i (omega arith) in
-      let q : chainPart z (behindKey (lengthByte (take m i)) (take m i)) ≡ chainPart z (behindKey n i) =
-      ap (λ (x : ℕ). chainPart z (behindKey x (take m i))) b ∙ part-front (1 + n) (chainLength z) m i (omega arith) in
-      let s : blockPart z (behindKey (lengthByte (take m i)) (take m i)) ≡ blockPart z (behindKey n i) =
-      ap (λ (x : ℕ). blockPart z (behindKey x (take m i))) b
+      let q : chainPart z (afterKey (lengthByte (take m i)) (take m i)) ≡ chainPart z (afterKey n i) =
+      ap (λ (x : ℕ). chainPart z (afterKey x (take m i))) b ∙ part-front (1 + n) (chainLength z) m i (omega arith) in
+      let s : blockPart z (afterKey (lengthByte (take m i)) (take m i)) ≡ blockPart z (afterKey n i) =
+      ap (λ (x : ℕ). blockPart z (afterKey x (take m i))) b
       ∙ ap (take 16) (drop-drop (chainLength z) (1 + n) (take m i))
       ∙ part-front (1 + n + chainLength z) 16 m i (omega arith)
       ∙ sym (ap (take 16) (drop-drop (chainLength z) (1 + n) i)) in

@@ -1,5 +1,4 @@
 -- Laws of reading and writing: bytes counted at the front of a buffer, as the kit's `io` counts them.
--- Assumes nothing.
 use mathlib.Core.Path.{_≡_, refl, sym, ap, _∙_}
 use mathlib.Core.List.{List, _++_}
 use Prim.Native.Nat.{ℕ, _+_, _-_, _≤_}
@@ -28,7 +27,7 @@ report-counts n t p e =
     let b : length t ≡ length p + length z = ap (λ (q : ℕ × List ℕ). length (q .1)) e ∙ length-append p z in
     counts n (length t) t refl (omega arith)
 
--- a buffer whose first byte is v, and of whose bytes below n those behind it were read as q, k of them
+-- a buffer whose first byte is v, and of whose bytes below n those after it were read as q, k of them
 module _ (xs : List ℕ) (v n m : ℕ) (e : length xs ≡ m) (h : n ≤ m) where
   pub room-left : n ≤ length (set xs 0 v)
   room-left = rw (length-set xs 0 v) (omega arith)

@@ -1,6 +1,5 @@
 -- Laws of the round program's rounds: what building the tables of a round and running them gives, rounds one after
 -- another, and decoding by a set of the chain.
--- Assumes nothing.
 use mathlib.Core.Path.{_≡_, refl, sym, ap, _∙_}
 use mathlib.Core.List.{List, []}
 use Prim.Native.Nat.{ℕ, zero, suc, _+_, _-_, _*_, _%_, _≤_, _<_}
@@ -9,7 +8,7 @@ use native.Mathlib.Omega.{arith}
 use lib.ListN.{length, getD, take, drop, length-drop}
 use Rattle.lists.proofs.PartLaws.{part-end, grown-whole}
 use Rattle.cipher.specs.KeySize.{rounds, sizeOfKey}
-use Rattle.cipher.specs.Schedule.{schedule}
+use Rattle.cipher.specs.Lea.{keyRows}
 use Rattle.cipher.specs.Coding.{FirstPermutations, LowSet, setOf, inverted, coded, decoded}
 use Rattle.cipher.specs.Tables.{tableRound, tableRounds}
 use Rattle.cipher.specs.Chain.{Chain, chainSet, roundCodings}
@@ -31,25 +30,25 @@ use Rattle.round.specs.Round.{Ready, tablesOf, laterRounds}
 module _ (z : KeySize) (key ch : List ℕ) (h : Ready z key ch) (l : ℕ) (b : l < rounds z) where
   tables-size : length (tablesOf z key ch l) ≡ 18432
   unfolding bookRound
-  tables-size = round-size (roundCodings (rounds z) ch l) (getD (schedule z key) l [])
+  tables-size = round-size (roundCodings (rounds z) ch l) (getD (keyRows z key) l [])
 
-  pub tables-built : (n : ℕ) (t u : List ℕ) → length t ≡ 18432 → (n, u) ≡ book.roundAnswer key ch l t → u ≡ tablesOf z key ch l
+  pub tables-built : (n : ℕ) (t u : List ℕ) → length t ≡ 18432 → (n, u) ≡ book.buildRoundAnswer key ch l t → u ≡ tablesOf z key ch l
   tables-built n t u e q =
       ap (λ (p : ℕ × List ℕ). p .1)
-      (q ∙ sym (built-done key ch t (λ z. 18432) (λ z. bookRound (rounds z) (schedule z key) ch (l % rounds z)) z
-      (ap sizeOfKey (h .0) ∙ size-of-key z) (h .1) (le-of-eq (sym e)) (bookRound (rounds z) (schedule z key) ch (l % rounds z)) refl))
-      ∙ grown-whole (bookRound (rounds z) (schedule z key) ch (l % rounds z)) t 18432 (le-of-eq e)
+      (q ∙ sym (built-done key ch t (λ z. 18432) (λ z. bookRound (rounds z) (keyRows z key) ch (l % rounds z)) z
+      (ap sizeOfKey (h .0) ∙ size-of-key z) (h .1) (le-of-eq (sym e)) (bookRound (rounds z) (keyRows z key) ch (l % rounds z)) refl))
+      ∙ grown-whole (bookRound (rounds z) (keyRows z key) ch (l % rounds z)) t 18432 (le-of-eq e)
       ∙ ap (tablesOf z key ch) (mod-eq-of-lt b)
 
   pub round-run : (n m : ℕ) (t u x y : List ℕ) → length t ≡ 18432 → length x ≡ 16
-      → (n, u) ≡ book.roundAnswer key ch l t → (m, y) ≡ driver.roundAnswer u x → y ≡ tableRound (tablesOf z key ch l) x
+      → (n, u) ≡ book.buildRoundAnswer key ch l t → (m, y) ≡ driver.runRoundAnswer u x → y ≡ tableRound (tablesOf z key ch l) x
   round-run n m t u x y e f p q =
       let d = tables-built n t u e p in
       ap (λ (p : ℕ × List ℕ). p .1) (q ∙ round-done u x (ap length d ∙ tables-size) f) ∙ ap (λ (t : List ℕ). tableRound t x) d
 
 -- ---- rounds one after another
 
--- one more, and, behind round 0, all
+-- one more, and, after round 0, all
 pub later-turn : (z : KeySize) (key ch x b y : List ℕ) (l : ℕ) → 1 ≤ l → b ≡ laterRounds z key ch l x
     → y ≡ tableRound (tablesOf z key ch l) b → y ≡ laterRounds z key ch (l + 1) x
 unfolding tableRounds
@@ -61,16 +60,16 @@ later-turn z key ch x b y l h e d =
     ∙ ap (λ (k : ℕ). tableRound (tablesOf z key ch k) (laterRounds z key ch l x)) q
     ∙ ap (λ (k : ℕ). tableRounds (λ l. tablesOf z key ch (suc l)) k x) (sym p)
 
-behind : (t : ℕ → List ℕ) (n : ℕ) (b : List ℕ) → tableRounds (λ l. t (suc l)) n (tableRound (t 0) b) ≡ tableRounds t (suc n) b
+after : (t : ℕ → List ℕ) (n : ℕ) (b : List ℕ) → tableRounds (λ l. t (suc l)) n (tableRound (t 0) b) ≡ tableRounds t (suc n) b
 unfolding tableRounds
-behind t zero b = refl
-behind t (suc n) b = ap (tableRound (t (suc n))) (behind t n b)
+after t zero b = refl
+after t (suc n) b = ap (tableRound (t (suc n))) (after t n b)
 
 pub all-rounds : (z : KeySize) (key ch b : List ℕ) → laterRounds z key ch (rounds z) (tableRound (tablesOf z key ch 0) b) ≡ tableRounds (tablesOf z key ch) (rounds z) b
 all-rounds z key ch b =
     let m = rounds-more z in
     let p : suc (rounds z - 1) ≡ rounds z = omega arith in
-    behind (tablesOf z key ch) (rounds z - 1) b ∙ ap (λ (k : ℕ). tableRounds (tablesOf z key ch) k b) p
+    after (tablesOf z key ch) (rounds z - 1) b ∙ ap (λ (k : ℕ). tableRounds (tablesOf z key ch) k b) p
 
 -- ---- decoding by set n: its codings inverted, as the code lends them
 

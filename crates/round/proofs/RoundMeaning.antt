@@ -1,6 +1,5 @@
 -- What the two lines are: the opened blocks are LEA's first round, and all of LEA, on the input block decoded by set 0, for
 -- every key size and every valid chain (document 01, "The model session of demand 3", its paragraph on n rounds).
--- Assumes nothing.
 use mathlib.Core.Path.{_≡_, refl, ap₂, _∙_}
 use mathlib.Core.List.{List, [], _++_}
 use Prim.Native.Nat.{ℕ, _≤_, _<_}
@@ -8,7 +7,7 @@ use native.Mathlib.Nat.{le-refl}
 use native.Mathlib.Omega.{arith}
 use lib.ListN.{length, getD, drop}
 use Rattle.cipher.specs.KeySize.{rounds, chainLength, sizeOfKey}
-use Rattle.cipher.specs.Schedule.{schedule}
+use Rattle.cipher.specs.Lea.{keyRows}
 use Rattle.cipher.specs.Lea.{firstRounds, encipher}
 use Rattle.cipher.specs.Coding.{decoded}
 use Rattle.cipher.specs.Tables.{RoundTables}
@@ -21,24 +20,24 @@ use Rattle.cipher.proofs.RoundsLaw.{rounds-law}
 use Rattle.cipher.proofs.ChainTests.{valid-round}
 use Rattle.cipher.proofs.BookLaw.{round-made}
 use Rattle.round.specs.Text.{line}
-use Rattle.round.specs.Round.{tablesOf, openedAfter, twoLines, lengthByte, keyPart, behindKey, chainPart, blockPart, printed, printedBehind}
-use Rattle.round.proofs.AnswerLaws.{printed-behind, on-run}
+use Rattle.round.specs.Round.{tablesOf, openedAfter, twoLines, lengthByte, keyPart, afterKey, chainPart, blockPart, printed, printedAfter}
+use Rattle.round.proofs.AnswerLaws.{printed-after, on-run}
 
 module _ (z : KeySize) (key ch : List ℕ) (v : Chain z ch) where
-  tables-are : (l : ℕ) → l < rounds z → RoundTables (roundCodings (rounds z) ch l) (getD (schedule z key) l []) (tablesOf z key ch l)
+  tables-are : (l : ℕ) → l < rounds z → RoundTables (roundCodings (rounds z) ch l) (getD (keyRows z key) l []) (tablesOf z key ch l)
   unfolding bookRound
-  tables-are l h = round-made (roundCodings (rounds z) ch l) (getD (schedule z key) l [])
+  tables-are l h = round-made (roundCodings (rounds z) ch l) (getD (keyRows z key) l [])
 
   -- after n rounds, for every n
-  pub opened-lea : (b : List ℕ) (n : ℕ) → n ≤ rounds z → openedAfter z key ch n b ≡ firstRounds (schedule z key) n (decoded (chainSet ch 0) b)
+  pub opened-lea : (b : List ℕ) (n : ℕ) → n ≤ rounds z → openedAfter z key ch n b ≡ firstRounds (keyRows z key) n (decoded (chainSet ch 0) b)
   opened-lea b n h =
-      rounds-law (rounds z) (chainSet ch) (roundCodings (rounds z) ch) (schedule z key) (tablesOf z key ch)
+      rounds-law (rounds z) (chainSet ch) (roundCodings (rounds z) ch) (keyRows z key) (tablesOf z key ch)
       (λ l. unfold roundCodings in refl) (λ l. unfold roundCodings in refl)
       (valid-round (rounds z) ch (v .codings) (v .word3) (v .masks)) tables-are b n h (v .codings .sets n h)
 
   pub lines-lea : (b : List ℕ)
       → twoLines z key ch b
-      ≡ line 1 1 (firstRounds (schedule z key) 1 (decoded (chainSet ch 0) b)) ++ line 2 (rounds z) (encipher z key (decoded (chainSet ch 0) b))
+      ≡ line 1 1 (firstRounds (keyRows z key) 1 (decoded (chainSet ch 0) b)) ++ line 2 (rounds z) (encipher z key (decoded (chainSet ch 0) b))
   unfolding twoLines
   lines-lea b =
       let m = rounds-more z in
@@ -48,21 +47,21 @@ module _ (z : KeySize) (key ch : List ℕ) (v : Chain z ch) where
 pub record Input (z : KeySize) (i : List ℕ) : Type 0 where
   pub size : sizeOfKey (lengthByte i) ≡ Found z
   pub key : length (keyPart (lengthByte i) i) ≡ lengthByte i
-  pub chain : Chain z (chainPart z (behindKey (lengthByte i) i))
-  pub block : 16 ≤ length (drop (chainLength z) (behindKey (lengthByte i) i))
+  pub chain : Chain z (chainPart z (afterKey (lengthByte i) i))
+  pub block : 16 ≤ length (drop (chainLength z) (afterKey (lengthByte i) i))
 
 -- what is printed for it is LEA's first round, and all of LEA, on the block that the coded block is by set 0
 abbrev pub plainBlock : KeySize → List ℕ → List ℕ
-plainBlock z i = decoded (chainSet (chainPart z (behindKey (lengthByte i) i)) 0) (blockPart z (behindKey (lengthByte i) i))
+plainBlock z i = decoded (chainSet (chainPart z (afterKey (lengthByte i) i)) 0) (blockPart z (afterKey (lengthByte i) i))
 
 pub printed-lea : (z : KeySize) (i : List ℕ) → Input z i
     → printed i
-    ≡ line 1 1 (firstRounds (schedule z (keyPart (lengthByte i) i)) 1 (plainBlock z i))
+    ≡ line 1 1 (firstRounds (keyRows z (keyPart (lengthByte i) i)) 1 (plainBlock z i))
     ++ line 2 (rounds z) (encipher z (keyPart (lengthByte i) i) (plainBlock z i))
-unfolding printedBehind
+unfolding printedAfter
 printed-lea z i h =
     let key = keyPart (lengthByte i) i in
-    let s = behindKey (lengthByte i) i in
-    printed-behind i z (h .size) (h .key)
+    let s = afterKey (lengthByte i) i in
+    printed-after i z (h .size) (h .key)
     ∙ on-run z key (chainPart z s) (drop (chainLength z) s) (h .chain) (h .block)
     ∙ lines-lea z key (chainPart z s) (h .chain) (blockPart z s)

@@ -1,5 +1,4 @@
 -- Laws of the text that the round program prints: digits, and blocks in hex digit by digit.
--- Assumes nothing.
 use mathlib.Core.Path.{_≡_, refl, ap}
 use mathlib.Core.List.{List, [], _∷_, _++_}
 use Prim.Native.Nat.{ℕ, _+_, _/_, _%_, _≤_, _<_}

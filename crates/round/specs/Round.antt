@@ -1,15 +1,15 @@
 -- The round program (document 01, "Table of examples", its last paragraph): the parts of its input, and what it prints for
 -- any input.
--- Assumes nothing.
 use mathlib.Core.Path.{_≡_}
 use mathlib.Core.Bool.{Bool, not}
 use mathlib.Core.List.{List, [], _∷_, _++_}
 use Prim.Native.Nat.{ℕ, suc, _+_, _-_}
 use lib.Dec.{eqb}
 use lib.ListN.{length, getD, take, drop}
+use Rattle.lists.specs.Blocks.{blockLength}
 use Rattle.lists.specs.Refusals.{first}
 use Rattle.cipher.specs.KeySize.{rounds, keyLength, chainLength, sizeOfKey}
-use Rattle.cipher.specs.Schedule.{schedule}
+use Rattle.cipher.specs.Lea.{keyRows}
 use Rattle.cipher.specs.Coding.{decoded}
 use Rattle.cipher.specs.Tables.{tableRounds}
 use Rattle.cipher.specs.Chain.{Chain, chainSet, chainTests}
@@ -28,9 +28,9 @@ Ready z key ch = (length key ≡ keyLength z) × Chain z ch
 
 -- the tables of round l of the book that they make
 abbrev pub tablesOf : KeySize → List ℕ → List ℕ → ℕ → List ℕ
-tablesOf z key ch l = bookRound (rounds z) (schedule z key) ch l
+tablesOf z key ch l = bookRound (rounds z) (keyRows z key) ch l
 
--- a block by the rounds 1 to n - 1, which come behind round 0
+-- a block by the rounds 1 to n - 1, which come after round 0
 abbrev pub laterRounds : KeySize → List ℕ → List ℕ → ℕ → List ℕ → List ℕ
 laterRounds z key ch n x = tableRounds (λ l. tablesOf z key ch (suc l)) (n - 1) x
 
@@ -48,19 +48,19 @@ twoLines z key ch b = line 1 1 (openedAfter z key ch 1 b) ++ line 2 (rounds z) (
 abbrev pub lengthByte : List ℕ → ℕ
 lengthByte i = getD i 0 0
 
--- of the bytes behind it, as many as there are of the n of the key, and what is behind those
+-- of the bytes after it, as many as there are of the n of the key, and what is after those
 abbrev pub keyPart : ℕ → List ℕ → List ℕ
 keyPart n i = take n (drop 1 i)
 
-abbrev pub behindKey : ℕ → List ℕ → List ℕ
-behindKey n i = drop (1 + n) i
+abbrev pub afterKey : ℕ → List ℕ → List ℕ
+afterKey n i = drop (1 + n) i
 
--- of what is behind the key, as many as there are of the chain's bytes, and of the block's
+-- of what is after the key, as many as there are of the chain's bytes, and of the block's
 abbrev pub chainPart : KeySize → List ℕ → List ℕ
 chainPart z s = take (chainLength z) s
 
 abbrev pub blockPart : KeySize → List ℕ → List ℕ
-blockPart z s = take 16 (drop (chainLength z) s)
+blockPart z s = take blockLength (drop (chainLength z) s)
 
 -- ---- what is printed
 
@@ -78,21 +78,21 @@ printed i =
     let n = lengthByte i in
     let z = keyLengthSize n in
     let key = keyPart n i in
-    let ch = chainPart z (behindKey n i) in
-    let b = blockPart z (behindKey n i) in
+    let ch = chainPart z (afterKey n i) in
+    let b = blockPart z (afterKey n i) in
     first (keyLengthTests n ++ (keyWhole n key ++ restTests z ch b)) refusedText (twoLines z key ch b)
 
--- the same where length byte and key are taken, from a key of size z, the chain's bytes and what is behind them
+-- the same where length byte and key are taken, from a key of size z, the chain's bytes and what is after them
 unfoldable pub printedOn : KeySize → List ℕ → List ℕ → List ℕ → List ℕ
-printedOn z key ch s = first (restTests z ch (take 16 s)) refusedText (twoLines z key ch (take 16 s))
+printedOn z key ch s = first (restTests z ch (take blockLength s)) refusedText (twoLines z key ch (take blockLength s))
 
--- and from a key and what is behind it
-unfoldable pub printedBehind : KeySize → List ℕ → List ℕ → List ℕ
-printedBehind z key s = printedOn z key (chainPart z s) (drop (chainLength z) s)
+-- and from a key and what is after it
+unfoldable pub printedAfter : KeySize → List ℕ → List ℕ → List ℕ
+printedAfter z key s = printedOn z key (chainPart z s) (drop (chainLength z) s)
 
 -- how many bytes the program reads where the first is x
 abbrev pub wantedOf : SizeFound → ℕ
-wantedOf (Found z) = 1 + keyLength z + chainLength z + 16
+wantedOf (Found z) = 1 + keyLength z + chainLength z + blockLength
 wantedOf Unknown = 1
 
 abbrev pub wanted : ℕ → ℕ

@@ -1,6 +1,5 @@
 -- What the round program prints (document 01, "Table of examples", its last paragraph): "refused N", or lines of a round
 -- number, a space and a block in lower-case hex. `digits` is the kit's: the last k digits of a number, in lower case.
--- Assumes nothing.
 use mathlib.Core.Bool.{cond}
 use mathlib.Core.List.{List, [], _∷_, _++_}
 use Prim.Native.Nat.{ℕ, _-_, _/_, _%_}
@@ -29,7 +28,7 @@ refusedWord = 114 ∷ 101 ∷ 102 ∷ 117 ∷ 115 ∷ 101 ∷ 100 ∷ 32 ∷ []
 unfoldable pub refusedText : ℕ → List ℕ
 refusedText n = refusedWord ++ (digits 10 1 n ++ (10 ∷ []))
 
--- a report as its length and its bytes; and what they must be for the text t: t, with zeros behind it
+-- a report as its length and its bytes; and what they must be for the text t: t, with zeros after it
 abbrev pub reportTold : Report → ℕ × List ℕ
 reportTold a = (a .length, a .text)
 

@@ -7,6 +7,7 @@ ghost use lib.ListN.{length};
 ghost use Rattle.io.specs.Counts.{Counts};
 ghost use Rattle.round.specs.Round.{wanted as wantedBytes};
 use cipher::invert::wide;
+use cipher::lengths;
 use cipher::size::KeySize;
 use cipher::size::SizeFound;
 
@@ -21,9 +22,9 @@ const STDOUT: i32 = 1;
 // The longest input, that of a key of 32 bytes and so 32 rounds: length byte, key, chain, block.
 const LONGEST: usize = 1
     + 32
-    + 2 * KeySize::SET
-    + (KeySize::SET + KeySize::ROUND_CODINGS) * 32
-    + 16;
+    + 2 * lengths::SET
+    + (lengths::SET + lengths::ROUND_CODINGS) * 32
+    + lengths::BLOCK;
 
 fn room() -> [u8; LONGEST]
     ensures { λ r. ⌜ 30513 ≡ length r ⌝ }
@@ -38,7 +39,7 @@ fn wanted(first: u8) -> usize
     let SizeFound::Found(size) = KeySize::of_key_len(wide(first)) else {
         return 1;
     };
-    1 + size.key_len() + size.chain_len() + 16
+    1 + size.key_len() + size.chain_len() + lengths::BLOCK
 }
 
 // Reads the input and no later byte, and answers how many bytes there were of it.

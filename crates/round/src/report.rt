@@ -4,7 +4,7 @@ ghost use mathlib.Core.Path.{_≡_};
 ghost use lib.ListN.{length};
 ghost use Rattle.cipher.specs.KeySize as S;
 ghost use Rattle.round.specs.Text.{shown, reportTold};
-ghost use Rattle.round.specs.Round.{Ready, twoLines, printedOn, printedBehind, printed};
+ghost use Rattle.round.specs.Round.{Ready, twoLines, printedOn, printedAfter, printed};
 use crate::rounds::later_rounds;
 use crate::rounds::one_round;
 use crate::rounds::opened;
@@ -14,6 +14,7 @@ use crate::text::two_lines;
 use cipher::block::block_at;
 use cipher::chain::check_sized;
 use cipher::invert::wide;
+use cipher::lengths;
 use cipher::refusal::Refusal;
 use cipher::size::KeySize;
 use cipher::size::SizeFound;
@@ -41,16 +42,16 @@ fn on_chain(size: KeySize, key: &[u8], chain: &[u8], rest: &[u8]) -> Report
     if number != 0 {
         return refused(number);
     }
-    if rest.len() < 16 {
+    if rest.len() < lengths::BLOCK {
         return refused(Refusal::BlockLength.number());
     }
     run(size, key, chain, block_at(rest, 0))
 }
 
-// What is behind the key: the chain, of which bytes may be missing (2), and what is behind it.
+// What is after the key: the chain, of which bytes may be missing (2), and what is after it.
 fn on_rest(size: KeySize, key: &[u8], rest: &[u8]) -> Report
     requires { ⌜ length (now key) ≡ S.keyLength size ⌝ }
-    ensures { λ a. ⌜ reportTold a ≡ shown (printedBehind size (now (key .entry)) (now (rest .entry))) ⌝ }
+    ensures { λ a. ⌜ reportTold a ≡ shown (printedAfter size (now (key .entry)) (now (rest .entry))) ⌝ }
 {
     let n = size.chain_len();
     if rest.len() < n {
@@ -60,7 +61,7 @@ fn on_rest(size: KeySize, key: &[u8], rest: &[u8]) -> Report
 }
 
 // The whole input: a length byte that is missing or none of the three, and missing bytes of the key
-// (1), then what is behind the key.
+// (1), then what is after the key.
 pub fn report(input: &[u8]) -> Report
     ensures { λ a. ⌜ reportTold a ≡ shown (printed (now (input .entry))) ⌝ }
 {

@@ -2,6 +2,7 @@
 ghost use mathlib.Core.Path.{_≡_};
 ghost use Prim.Native.Nat.{_≤_, _<_};
 ghost use lib.ListN.{length};
+ghost use Rattle.cipher.specs.Lengths.{roundLength};
 ghost use Rattle.cipher.specs.KeySize as S;
 ghost use Rattle.cipher.specs.Chain.{Chain, chainSet};
 ghost use Rattle.cipher.specs.Coding.{decoded};
@@ -10,14 +11,15 @@ ghost use Rattle.round.specs.Round.{Ready, tablesOf, laterRounds};
 use book::build::build_round;
 use cipher::block::code_block;
 use cipher::invert::invert;
+use cipher::lengths;
 use cipher::size::KeySize;
 use driver::run::run_round;
 
 // Room for the tables of one round.
-fn room() -> [u8; KeySize::ROUND_TABLES]
-    ensures { λ r. ⌜ 18432 ≡ length r ⌝ }
+fn room() -> [u8; lengths::ROUND_TABLES]
+    ensures { λ r. ⌜ roundLength ≡ length r ⌝ }
 {
-    [0u8; KeySize::ROUND_TABLES]
+    [0u8; lengths::ROUND_TABLES]
 }
 
 // A block by the tables of round l, which are built for it.
@@ -49,8 +51,8 @@ pub fn opened(size: KeySize, chain: &[u8], n: usize, x: [u8; 16]) -> [u8; 16]
     requires { ⌜ Chain size (now chain) × (n ≤ S.rounds size) ⌝ }
     ensures { λ r. ⌜ r ≡ decoded (chainSet (now (chain .entry)) n) x ⌝ }
 {
-    let at = KeySize::SET * (n + 1);
-    let mut inverse = [0u8; KeySize::SET];
-    invert(&chain[at..], KeySize::SET_CODINGS, &mut inverse);
+    let at = lengths::SET * (n + 1);
+    let mut inverse = [0u8; lengths::SET];
+    invert(&chain[at..], lengths::SET_CODINGS, &mut inverse);
     code_block(&inverse, x)
 }

@@ -9,7 +9,7 @@ ghost use Rattle.round.specs.Text.{hexDigit, hexOf, line, refusedText, s
 // The bytes of two lines, the longest text: 2 and 3 in front of a block, 32 for it, a newline.
 const LONGEST: usize = 2 + 3 + 2 * (32 + 1);
 
-// The text that is printed: the first `length` bytes of `text`; behind them are zeros.
+// The text that is printed: the first `length` bytes of `text`; after them are zeros.
 pub struct Report {
     pub text: [u8; LONGEST],
     pub length: usize,

@@ -2,7 +2,7 @@
 ghost use mathlib.Core.Path.{_≡_};
 ghost use Prim.Native.Nat.{_<_};
 ghost use lib.ListN.{length};
-use cipher::size::KeySize;
+use cipher::lengths;
 
 // The ink file, in bytes.
 pub const INK: usize = 9412;
@@ -31,17 +31,17 @@ fn entry(n: usize, e: usize) -> u8
     ((11 * e + n / 2 % 16) % 16) as u8
 }
 
-// Byte i of the sets of pad n's chain. Word 3 of each set behind set 0 is word 0 of the set before it.
+// Byte i of the sets of pad n's chain. Word 3 of each set after set 0 is word 0 of the set before it.
 fn set_byte(n: u8, i: usize) -> u8
     requires { ⌜ i < 13312 ⌝ }
 {
-    let set = i / KeySize::SET;
-    let coding = i / KeySize::CODING;
-    let e = i % KeySize::CODING;
-    let word = coding % KeySize::SET_CODINGS / KeySize::HALVES;
+    let set = i / lengths::SET;
+    let coding = i / lengths::CODING;
+    let e = i % lengths::CODING;
+    let word = coding % lengths::SET_CODINGS / lengths::HALVES;
     if 2 <= set {
         if word == 3 {
-            return entry(5 * (coding - KeySize::SET_CODINGS - 24) + n as usize, e);
+            return entry(5 * (coding - lengths::SET_CODINGS - 24) + n as usize, e);
         }
     }
     entry(5 * coding + n as usize, e)
@@ -50,15 +50,15 @@ fn set_byte(n: u8, i: usize) -> u8
 // Byte i of the rounds of pad n's chain: 24 middle codings, then 24 masks, those of half byte 0
 // being 0.
 fn round_byte(n: u8, i: usize) -> u8 {
-    let l = i / KeySize::ROUND_CODINGS;
-    let k = i % KeySize::ROUND_CODINGS;
-    if k < KeySize::MIDDLES * KeySize::CODING {
+    let l = i / lengths::ROUND_CODINGS;
+    let k = i % lengths::ROUND_CODINGS;
+    if k < lengths::MIDDLES * lengths::CODING {
         return entry(
-            7 * (k / KeySize::CODING) + l % 100 + n as usize,
-            k % KeySize::CODING,
+            7 * (k / lengths::CODING) + l % 100 + n as usize,
+            k % lengths::CODING,
         );
     }
-    if k % KeySize::HALVES == 0 {
+    if k % lengths::HALVES == 0 {
         return 0;
     }
     if (k + l % 100) % 3 == 0 { 1 } else { 0 }
@@ -66,10 +66,10 @@ fn round_byte(n: u8, i: usize) -> u8 {
 
 // Byte i of pad n's chain.
 fn chain_byte(n: u8, i: usize) -> u8 {
-    if i < SETS * KeySize::SET {
+    if i < SETS * lengths::SET {
         return set_byte(n, i);
     }
-    round_byte(n, i - SETS * KeySize::SET)
+    round_byte(n, i - SETS * lengths::SET)
 }
 
 // The chain of pad n.

@@ -4,16 +4,16 @@
 // fixed rules.
 ghost use mathlib.Core.Path.{_≡_};
 ghost use lib.ListN.{length};
-use cipher::size::KeySize;
+use cipher::lengths;
 
 mod made; // made.rt: the key, the chain and the ink
 mod print; // print.rt: lines of text
 mod stations; // stations.rt: what each station does
 
 // The chain and the book of a 16-byte key, which has 24 rounds.
-const CHAIN: usize = 2 * KeySize::SET + (KeySize::SET + KeySize::ROUND_CODINGS) * 24;
+const CHAIN: usize = 2 * lengths::SET + (lengths::SET + lengths::ROUND_CODINGS) * 24;
 
-const BOOK: usize = KeySize::START + 3 * KeySize::GROUP + KeySize::ROUND_TABLES * 24;
+const BOOK: usize = lengths::START + 3 * lengths::GROUP + lengths::ROUND_TABLES * 24;
 
 fn chain_room() -> [u8; CHAIN]
     ensures { λ r. ⌜ 23104 ≡ length r ⌝ }

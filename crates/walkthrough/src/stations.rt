@@ -8,9 +8,9 @@ use archive::check::Checked;
 use archive::check::check;
 use archive::open::open;
 use book::build::build;
+use cipher::lengths;
 use cipher::refusal::Outcome;
 use cipher::refusal::Written;
-use cipher::size::KeySize;
 use driver::seal::seal;
 use driver::session::Session;
 use driver::session::begin;
@@ -23,9 +23,9 @@ use pad::code::code_for_tag;
 // The ink file padded to blocks, in bytes.
 const CODED: usize = 9424;
 // Where the last of the sets of a chain of 24 rounds begins and ends.
-const LAST: usize = KeySize::SET * 25;
+const LAST: usize = lengths::SET * 25;
 
-const LAST_END: usize = KeySize::SET * 26;
+const LAST_END: usize = lengths::SET * 26;
 
 // A buffer for so many bytes.
 pub fn room() -> [u8; CODED]
@@ -70,7 +70,7 @@ fn seal_file(book: &[u8], iv: &[u8], coded: &[u8], sealed: &mut [u8]) {
     show(b"   out  sealed file      ", sealed);
 }
 
-// The session behind the block calls for all blocks of a coded file but the last.
+// The session after the block calls for all blocks of a coded file but the last.
 fn block_calls(start: Session, book: &[u8], coded: &[u8]) -> Session {
     let mut s = start;
     let n = coded.len() / 16;
@@ -179,7 +179,7 @@ fn bank(key: &[u8], set: &[u8], ink: &[u8], iv: &[u8], sealed: &[u8], tag: &[u8]
     }
 }
 
-// Byte k of a file of which a bit of the byte at a place is flipped; 0 behind its end.
+// Byte k of a file of which a bit of the byte at a place is flipped; 0 after its end.
 fn flipped(bytes: &[u8], at: usize, bit: u8, k: usize) -> u8 {
     if bytes.len() <= k {
         return 0;
@@ -211,7 +211,7 @@ pub fn front(
     if chain.len() < LAST_END {
         return [0u8; 16];
     }
-    let tag = counter(&chain[0..KeySize::SET], ink, book, iv, sealed);
+    let tag = counter(&chain[0..lengths::SET], ink, book, iv, sealed);
     server(iv, sealed, &tag);
     tag
 }

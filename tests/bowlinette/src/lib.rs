@@ -1,6 +1,6 @@
-//! The functions of include/bowlinette.h for Rust, over slices, and three that are not in it. Each
-//! returns 0, or the number of a refusal, in which case what it may write to is as it was; but for
-//! the two ways, which have scratch buffers.
+//! The functions of include/bowlinette.h for Rust, over slices, and the three of the tests' own
+//! library. Each returns 0, or the number of a refusal, in which case what it may write to is as it
+//! was; but for the two round trips, which have scratch buffers.
 
 mod c {
     extern "C" {
@@ -32,7 +32,7 @@ mod c {
             round: usize,
             row: *mut u32,
         ) -> u32;
-        pub fn bowlinette_bench_chain(
+        pub fn bowlinette_cbc_mac(
             key: *const u8,
             key_length: usize,
             text: *const u8,
@@ -152,7 +152,7 @@ mod c {
             tag_length: usize,
             valid: *mut u8,
         ) -> u32;
-        pub fn bowlinette_tag_way(
+        pub fn bowlinette_tag_roundtrip(
             key: *const u8,
             key_length: usize,
             chain: *const u8,
@@ -165,7 +165,7 @@ mod c {
             coded_length: usize,
             valid: *mut u8,
         ) -> u32;
-        pub fn bowlinette_seal_way(
+        pub fn bowlinette_seal_roundtrip(
             key: *const u8,
             key_length: usize,
             chain: *const u8,
@@ -239,12 +239,12 @@ pub fn round_keys(key: &[u8], round: usize, row: &mut [u32; 6]) -> u32 {
     unsafe { c::bowlinette_round_keys(key.as_ptr(), key.len(), round, row.as_mut_ptr()) }
 }
 
-/// CMAC's chaining value after the whole blocks of a text, into out. Not in the header: it is there
-/// to time a loop over blocks.
+/// The CBC-MAC of the whole blocks of a text, into out. Not in the header: it is there to time a loop
+/// over blocks.
 #[inline]
-pub fn bench_chain(key: &[u8], text: &[u8], out: &mut [u8; 16]) -> u32 {
+pub fn cbc_mac(key: &[u8], text: &[u8], out: &mut [u8; 16]) -> u32 {
     unsafe {
-        c::bowlinette_bench_chain(
+        c::bowlinette_cbc_mac(
             key.as_ptr(),
             key.len(),
             text.as_ptr(),
@@ -480,10 +480,10 @@ pub fn check(key: &[u8], set: &[u8], message: &[u8], tag: &[u8], valid: &mut u8)
     }
 }
 
-/// The way of a tag, the verdict into valid. Not in the header, as the next one: both are there for
+/// The round trip of a tag, the verdict into valid. Not in the header, as the next one: both are there for
 /// the tests, and a refusal leaves in the scratch buffers what the calls before it wrote.
 #[inline]
-pub fn tag_way(
+pub fn tag_roundtrip(
     key: &[u8],
     chain: &[u8],
     message: &[u8],
@@ -491,7 +491,7 @@ pub fn tag_way(
     valid: &mut u8,
 ) -> u32 {
     unsafe {
-        c::bowlinette_tag_way(
+        c::bowlinette_tag_roundtrip(
             key.as_ptr(),
             key.len(),
             chain.as_ptr(),
@@ -507,10 +507,10 @@ pub fn tag_way(
     }
 }
 
-/// The way of a sealed file: the message to the front of the last buffer, and its length, into
+/// The round trip of a sealed file: the message to the front of the last buffer, and its length, into
 /// length.
 #[inline]
-pub fn seal_way(
+pub fn seal_roundtrip(
     key: &[u8],
     chain: &[u8],
     iv: &[u8],
@@ -519,7 +519,7 @@ pub fn seal_way(
     length: &mut u64,
 ) -> u32 {
     unsafe {
-        c::bowlinette_seal_way(
+        c::bowlinette_seal_roundtrip(
             key.as_ptr(),
             key.len(),
             chain.as_ptr(),

@@ -21,7 +21,7 @@ struct Product {
 }
 
 impl Product {
-    /// By chance, the book built by the proved library.
+    /// Random, the book built by the proved library.
     fn new(size: Size, random: &mut Random) -> Product {
         let key = random.bytes(size.key_bytes());
         let bytes = chains::valid(size, random);
@@ -85,21 +85,30 @@ impl Product {
 /// What is no session before it has begun.
 const DIRTY: bowlinette::Session = bowlinette::Session::of([7; 16], 7, 7);
 
-/// The lengths of messages to take whole ways: named ones, and some by chance.
+/// The lengths of messages to take whole ways: named ones, and some random ones.
 fn lengths(random: &mut Random) -> Vec<usize> {
     let mut lengths = vec![0, 1, 15, 16, 17, 31, 32, 33, 9_412];
     lengths.extend((0..30).map(|_| random.below(3_000)));
     lengths
 }
 
+/// A message with its PKCS#7 padding.
+fn padded(message: &[u8]) -> Vec<u8> {
+    let added = 16 - message.len() % 16;
+    [message, &vec![added as u8; added]].concat()
+}
+
+/// A sealed file is CBC of the padded message, coded by set r, and opens to the message.
 #[test]
-fn what_is_sealed_opens() {
+fn what_is_sealed_is_cbc_and_opens() {
     let mut random = Random(90);
     for size in Size::ALL.repeat(3) {
         let product = Product::new(size, &mut random);
         for n in lengths(&mut random).into_iter().chain([LONGEST]) {
             let (iv, message) = (random.bytes(16), random.bytes(n));
             let sealed = product.seal(&iv, &message);
+            let due = sealed_text(&product.key, &product.set, &iv, &padded(&message));
+            assert!(sealed == due, "{size:?}, {n} bytes: CBC");
             let copy = sealed.clone();
             for more in [0, 1, 16, 1_000] {
                 let told = product.open(&iv, &sealed, more);
@@ -237,7 +246,7 @@ fn other_keys_sets_and_ivs() {
     }
 }
 
-/// A key, a set and an IV by chance.
+/// A random key, set and IV.
 fn any(size: Size, random: &mut Random) -> (Vec<u8>, Vec<u8>, Vec<u8>) {
     let key = random.bytes(size.key_bytes());
     (key, chains::set(random), random.bytes(16))
@@ -259,7 +268,7 @@ fn ends(size: Size, random: &mut Random, end: &[u8], taken_off: Option<usize>) {
     }
 }
 
-/// Every last byte, behind as many as it says and behind others; 01's examples are 00, 11 and 03 02.
+/// Every last byte, after as many as it says and after others; 01's examples are 00, 11 and 03 02.
 #[test]
 fn every_padding() {
     let mut random = Random(95);
@@ -412,7 +421,7 @@ fn refusals_of_checking() {
     }
 }
 
-/// Bytes by chance, of every length, opened into buffers of any length; now and then their padding
+/// Random bytes, of every length, opened into buffers of any length; now and then their padding
 /// is right.
 #[test]
 fn any_bytes_opened() {
@@ -432,7 +441,7 @@ fn any_bytes_opened() {
     assert!([0, 8, 9, 11].iter().all(|&k| seen[k] > 10), "{seen:?}");
 }
 
-/// Messages of every length with tags right and by chance.
+/// Messages of every length with tags right and random.
 #[test]
 fn any_messages_checked() {
     let mut random = Random(99);

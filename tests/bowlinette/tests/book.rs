@@ -148,7 +148,7 @@ fn chains_that_are_not_valid() {
             }
             let at = SET * (l + 2) + 3 * WORD;
             let word = |c: &mut Case| c.chain.swap(at, at + 1);
-            assert_eq!(refused(&case, word), 4, "word 3 behind round {l}");
+            assert_eq!(refused(&case, word), 4, "word 3 after round {l}");
         }
     });
 }

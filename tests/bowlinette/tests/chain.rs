@@ -199,7 +199,7 @@ fn the_lowest_number_first() {
     });
 }
 
-/// Every byte of a chain, changed by chance to any other: both versions say the same.
+/// Every byte of a chain, changed at random to any other: both versions say the same.
 #[test]
 fn every_byte() {
     let mut random = Random(36);

@@ -78,7 +78,7 @@ fn a_c_program_with_the_header() {
     cc.args(["-std=c99", "-Wall", "-Wextra", "-pedantic", "-Werror", "-I"])
         .arg(here.join("../../include"))
         .arg(here.join("../c/header.c"))
-        .arg(here.join("../../target/staticlib/libexports.a"))
+        .arg(here.join("../../target/staticlib/libbowlinette.a"))
         .arg("-o")
         .arg(&program);
     printed(&mut cc);

@@ -210,7 +210,7 @@ fn lowest_number() {
     }
 }
 
-/// Whatever comes behind the block is left unread and changes nothing.
+/// Whatever comes after the block is left unread and changes nothing.
 #[test]
 fn later_bytes() {
     let mut random = Random(95);

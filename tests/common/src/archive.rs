@@ -3,7 +3,7 @@
 use crate::lent::{both, told, FILL, LENGTH};
 use reference::{archive, chain, lea};
 
-/// A sealed file opened into a buffer of a length: the message. Behind it the buffer must stay.
+/// A sealed file opened into a buffer of a length: the message. After it the buffer must stay.
 pub fn open(key: &[u8], set: &[u8], iv: &[u8], sealed: &[u8], room: usize) -> Result<Vec<u8>, u32> {
     let given = (key.len(), set.len(), iv.len(), sealed.len(), room);
     let (told, mut out) = both(
@@ -16,8 +16,8 @@ pub fn open(key: &[u8], set: &[u8], iv: &[u8], sealed: &[u8], room: usize) -> Re
         },
         |out| archive::open(key, set, iv, sealed, out).map(|n| n as u64),
     );
-    let behind = out.split_off(told? as usize);
-    assert!(behind.iter().all(|&x| x == FILL), "open, {given:?}");
+    let after = out.split_off(told? as usize);
+    assert!(after.iter().all(|&x| x == FILL), "open, {given:?}");
     Ok(out)
 }
 

@@ -1,4 +1,4 @@
-//! Books by chance.
+//! Random books.
 
 use crate::chains;
 use crate::Random;

@@ -1,4 +1,4 @@
-//! Valid chains and sets by chance.
+//! Random valid chains and sets.
 
 use crate::Random;
 use reference::chain::{self, SET};

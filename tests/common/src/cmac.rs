@@ -17,5 +17,5 @@ pub fn cmac(key: &[u8], message: &[u8]) -> Block {
     for (x, y) in text[last..].iter_mut().zip(subkey) {
         *x ^= y;
     }
-    lea::chain(key, &text).unwrap()
+    lea::cbc_mac(key, &text).unwrap()
 }

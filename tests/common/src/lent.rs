@@ -16,11 +16,11 @@ where
 {
     let mut all = vec![fill; count + 2 * GUARD];
     let given = call(&mut all[GUARD..GUARD + count]);
-    let behind = all.split_off(GUARD + count);
+    let after = all.split_off(GUARD + count);
     let left = all.split_off(GUARD);
     let stays = |x: &T| *x == fill;
     assert!(all.iter().all(stays), "before what is written");
-    assert!(behind.iter().all(stays), "behind what is written");
+    assert!(after.iter().all(stays), "after what is written");
     (given, left)
 }
 

@@ -1,4 +1,4 @@
-//! What the tests and the soak share: keys, chains, books and messages by chance, and each operation
+//! What the tests and the soak share: random keys, chains, books and messages, and each operation
 //! called on the proved library and on the reference at once. Both must give the same number and leave
 //! the same bytes, and a refusal must leave everything as it was.
 
@@ -13,7 +13,7 @@ pub mod pad;
 pub mod random;
 pub mod session;
 pub mod version;
-pub mod ways;
+pub mod roundtrip;
 
 pub use lent::{FILL, LENGTH};
 pub use random::Random;

@@ -68,7 +68,7 @@ impl Both {
         }
     }
 
-    /// One in any state by chance, near its limit or not.
+    /// One in any random state, near its limit or not.
     pub fn any(random: &mut Random) -> Both {
         let taken = match random.below(2) {
             0 => u16::MAX - random.below(8) as u16,
@@ -102,7 +102,7 @@ impl Both {
 }
 
 impl Call {
-    /// A call by chance, of which about one in three has something wrong with it.
+    /// A random call, of which about one in three has something wrong with it.
     pub fn any(random: &mut Random) -> Call {
         let length = match random.below(8) {
             0 => random.one_of(&[0, 15, 17, 32, 272]),

@@ -111,8 +111,8 @@ fn cmac(rows: &[Row], message: &[u8]) -> Block {
     let (front, rest) = message.split_at(cut);
     let (mut last, mut subkey) = ([0; 16], first);
     last[..rest.len()].copy_from_slice(rest);
-    if let Some(behind) = last.get_mut(rest.len()) {
-        (*behind, subkey) = (0x80, double(first));
+    if let Some(after) = last.get_mut(rest.len()) {
+        (*after, subkey) = (0x80, double(first));
     }
     let mut x = [0; 4];
     for text in front.chunks_exact(16) {

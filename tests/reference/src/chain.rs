@@ -12,7 +12,7 @@ pub const SET: usize = 32 * CODING;
 pub const WORD: usize = 8 * CODING;
 /// The middle codings of one round; its masks, a byte each, are as many.
 pub const MIDDLES: usize = 24;
-/// What a chain holds for each round behind its sets.
+/// What a chain holds for each round after its sets.
 pub const ROUND: usize = MIDDLES * CODING + MIDDLES;
 
 /// The bytes of a chain, of the length that its rounds need, by name.
@@ -160,7 +160,7 @@ pub fn preimages(set: &[u8]) -> [[u8; 256]; 16] {
     images(&inverse)
 }
 
-/// A valid chain by chance; `below` gives a number below its argument.
+/// A random valid chain; `below` gives a number below its argument.
 pub fn random(size: Size, mut below: impl FnMut(usize) -> usize) -> Vec<u8> {
     let rounds = size.rounds();
     let mut chain = Vec::with_capacity(size.chain_bytes());

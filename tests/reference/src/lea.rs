@@ -254,7 +254,7 @@ pub fn round_keys(key: &[u8], number: usize) -> Result<Row, u32> {
 
 /// CMAC's chaining value after the whole blocks of a text (SP 800-38B, MAC generation).
 #[inline]
-pub fn chain(key: &[u8], text: &[u8]) -> Result<Block, u32> {
+pub fn cbc_mac(key: &[u8], text: &[u8]) -> Result<Block, u32> {
     let mut rows = EMPTY;
     let size = schedule(key, &mut rows)?;
     let rows = &rows[..size.rounds()];

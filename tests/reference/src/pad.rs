@@ -33,7 +33,7 @@ pub fn code_for_tag(u: &[u8], message: &[u8], out: &mut [u8]) -> Result<(usize, 
     Ok((write(u, whole, Some(last), out)?, 1))
 }
 
-/// The whole blocks of a message that is not too long, and what is left behind them.
+/// The whole blocks of a message that is not too long, and what is left after them.
 fn split(message: &[u8]) -> Result<(&[u8], &[u8]), u32> {
     if message.len() > LONGEST {
         return Err(refusal::MESSAGE_LENGTH);

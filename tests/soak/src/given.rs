@@ -1,5 +1,5 @@
-//! Arguments by chance, each right or, where it is to be wrong, damaged in some way. Damage may
-//! by chance do no harm: what is due is what the reference says.
+//! Random arguments, each right or, where it is to be wrong, damaged in some way. Damage may
+//! happen to do no harm: what is due is what the reference says.
 
 use reference::book::ROUND;
 use reference::chain::{self, CODING, MIDDLES, SET, WORD};
@@ -67,7 +67,7 @@ impl<'a> Given<'a> {
         }
     }
 
-    /// Bytes by chance, as many as belong to a size.
+    /// Random bytes, as many as belong to a size.
     fn other_size(&mut self, bytes: fn(Size) -> usize) -> Vec<u8> {
         let size = self.random.one_of(&Size::ALL);
         self.random.bytes(bytes(size))
@@ -159,7 +159,7 @@ impl<'a> Given<'a> {
         }
     }
 
-    /// The book; or one with a bit changed, bytes by chance, or a wrong length.
+    /// The book; or one with a bit changed, random bytes, or a wrong length.
     pub fn book(&mut self, wrong: bool) -> Vec<u8> {
         let mut book = self.built.book.clone();
         if wrong {

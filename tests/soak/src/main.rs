@@ -1,4 +1,4 @@
-//! Calls by chance of every operation, on the proved library and on the reference, compared whole.
+//! Random calls of every operation, on the proved library and on the reference, compared whole.
 //!
 //!     cargo run --release --offline -p soak -- [--seconds N] [--rounds N] [--seed N] [--round N]
 //!

@@ -12,7 +12,7 @@ use shared::driver::{round, rounds, seal};
 use shared::pad::{code, due, Use};
 use shared::session::{tag, Both, Call};
 use shared::version::{PROVED, REFERENCE};
-use shared::ways;
+use shared::roundtrip;
 use std::fmt::Debug;
 
 pub struct Round<'a> {
@@ -36,7 +36,7 @@ impl Round<'_> {
         self.build_round();
         self.calls();
         self.whole_ways();
-        self.ways();
+        self.roundtrips();
         assert!(self.given.built.book == book, "the book");
     }
 
@@ -250,13 +250,13 @@ impl Round<'_> {
         );
     }
 
-    /// The two ways as single calls.
-    fn ways(&mut self) {
+    /// The two round trips as single calls.
+    fn roundtrips(&mut self) {
         let [k, c, v, m, r] = self.given.wrong();
         let message = self.given.message(m);
         let code = due(Use::Sealing, message.len());
         let room = [self.given.size.book_bytes(), code, code, code];
-        let given = ways::Given {
+        let given = roundtrip::Given {
             key: self.given.key(k),
             chain: self.given.chain(c),
             iv: self.given.block(v),
@@ -267,11 +267,11 @@ impl Round<'_> {
             }),
         };
         let before = (given.key.clone(), given.chain.clone(), given.iv.clone());
-        self.tally.add("tag_way", given.tagged());
-        self.tally.add("seal_way", given.sealed());
+        self.tally.add("tag_roundtrip", given.tagged());
+        self.tally.add("seal_roundtrip", given.sealed());
         assert!(
             (given.key, given.chain, given.iv) == before,
-            "what a way reads"
+            "what a round trip reads"
         );
     }
 }

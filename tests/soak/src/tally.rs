@@ -3,7 +3,7 @@
 use std::collections::BTreeMap;
 use std::fmt::{Display, Formatter, Result};
 
-/// Every operation, in the order of the header, and the two ways.
+/// Every operation, in the order of the header, and the two round trips.
 const OPERATIONS: [&str; 20] = [
     "encipher",
     "decipher",
@@ -23,8 +23,8 @@ const OPERATIONS: [&str; 20] = [
     "last_call",
     "open",
     "check",
-    "tag_way",
-    "seal_way",
+    "tag_roundtrip",
+    "seal_roundtrip",
 ];
 
 /// For each operation how often each number came back.

@@ -1,4 +1,4 @@
--- `main` is safe and ends. Assumes nothing.
+-- `main` is safe and ends.
 use borrow.Author.Needs.{needs}
 use Rattle.round.proofs.ReadingLaws.{report-counts}
 use Rattle.round.proofs.main.Statement.{statement}

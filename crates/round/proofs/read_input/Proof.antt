@@ -1,4 +1,4 @@
--- `read_input` meets its contract. Assumes nothing.
+-- `read_input` meets its contract.
 use borrow.Author.Needs.{needs}
 use Rattle.round.proofs.ReadingLaws.{room-left, same-room, read-counts}
 use Rattle.round.proofs.read_input.Statement.{statement}

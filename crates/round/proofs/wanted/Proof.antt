@@ -1,4 +1,4 @@
--- `wanted` meets its contract. Assumes nothing.
+-- `wanted` meets its contract.
 use mathlib.Core.Path.{_≡_, sym, ap, ap₂, _∙_}
 use Prim.Native.Nat.{ℕ, _+_}
 use native.Mathlib.Omega.{arith}

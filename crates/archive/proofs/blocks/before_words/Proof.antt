@@ -1,4 +1,4 @@
--- `blocks::before_words` meets its contract. Assumes nothing.
+-- `blocks::before_words` meets its contract.
 use mathlib.Core.Path.{ap, _∙_}
 use borrow.Author.Needs.{needs}
 use Rattle.cipher.specs.Schedule.{words4}

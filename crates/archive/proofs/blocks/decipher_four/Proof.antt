@@ -1,5 +1,4 @@
 -- `blocks::decipher_four` meets its contract. The invariant: of each block, what is left to undo, undone, is the whole undone.
--- Assumes nothing.
 use mathlib.Core.Path.{_≡_, refl, sym, ap, _∙_}
 use mathlib.Core.List.{List}
 use Prim.Native.Nat.{ℕ, _+_, _-_, _*_, _/_, _≤_}

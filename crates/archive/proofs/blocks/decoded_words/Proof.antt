@@ -1,4 +1,4 @@
--- `blocks::decoded_words` meets its contract. Assumes nothing.
+-- `blocks::decoded_words` meets its contract.
 use mathlib.Core.Path.{ap, _∙_}
 use Prim.Native.Nat.{ℕ}
 use native.Mathlib.Nat.{add-sub-cancel-left}

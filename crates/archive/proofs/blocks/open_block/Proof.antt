@@ -1,4 +1,4 @@
--- `blocks::open_block` meets its contract. Assumes nothing.
+-- `blocks::open_block` meets its contract.
 use mathlib.Core.Path.{ap, _∙_}
 use borrow.Author.Needs.{needs}
 use Rattle.archive.proofs.OpenLaws.{opened-words}

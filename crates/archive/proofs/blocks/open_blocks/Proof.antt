@@ -1,4 +1,4 @@
--- `blocks::open_blocks` meets its contract. The invariants: 4j blocks are opened, and then k. Assumes nothing.
+-- `blocks::open_blocks` meets its contract. The invariants: 4j blocks are opened, and then k.
 use mathlib.Core.Path.{_≡_, refl, ap, _∙_}
 use mathlib.Core.List.{List, _++_}
 use Prim.Native.Nat.{ℕ, _+_, _-_, _*_, _/_, _≤_}
@@ -12,7 +12,7 @@ use Rattle.cipher.specs.Schedule.{words4}
 use Rattle.cipher.specs.Images.{imaged}
 use Rattle.cipher.proofs.ImageLaws.{block-imaged}
 use Rattle.archive.specs.Blocks.{blockBefore, openedBlock}
-use Rattle.archive.proofs.OpenLaws.{opened-words, block-opened, open-turn, before-more, own-rest, behind}
+use Rattle.archive.proofs.OpenLaws.{opened-words, block-opened, open-turn, before-more, own-rest, after}
 use Rattle.archive.proofs.blocks.open_blocks.Statement.{statement}
 use Rattle.archive.proofs.blocks.open_blocks.Tie as tie
 
@@ -147,7 +147,7 @@ returns c =
     m .loop2 .inv .1
     ∙ (λ i. chunks (e i) (opened s) ++ drop (16 * e i) (l .loop .out))
     ∙ ap (λ (r : List ℕ). chunks (a .n) (opened s) ++ r)
-    (behind (opened s) (sized s) (a .out .now) (4 * l .loop .j) (a .n) (l .loop .out) (omega arith) (l .loop .inv .1))
+    (after (opened s) (sized s) (a .out .now) (4 * l .loop .j) (a .n) (l .loop .out) (omega arith) (l .loop .inv .1))
 
 pub open-blocks-spec : {M : Type 1} → statement M
 open-blocks-spec = tie.close (tie.spec Inv-loop μ-loop Inv-loop2 μ-loop2 loop-holds (λ c. search needs) (λ c. search needs) (λ c. search needs) (λ c. search needs) (λ c κs. search needs) (λ c. search needs) (λ c κs. search needs) (λ c. search needs) (λ c κs. search needs) (λ c. search needs) (λ c κs. search needs) (λ c. search needs) (λ c κs. search needs) (λ c κs. search needs) mul-put-xored put-xored-requires mul-put-xored-2 put-xored-requires-2 mul-put-xored-3 put-xored-requires-3 mul-put-xored-4 put-xored-requires-4 add-j loop-less loop-again (λ c. search needs) loop2-holds (λ c. search needs) (λ c κs. search needs) (λ c κs. search needs) (λ c. search needs) (λ c. search needs) loop2-again same-length returns)

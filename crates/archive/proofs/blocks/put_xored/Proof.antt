@@ -1,4 +1,4 @@
--- `blocks::put_xored` meets its contract. Assumes nothing.
+-- `blocks::put_xored` meets its contract.
 use mathlib.Core.Path.{ap, _∙_}
 use mathlib.Core.List.{List, _++_}
 use Prim.Native.Nat.{ℕ, _+_}

@@ -1,4 +1,4 @@
--- `mac::blocks_before` meets its contract. Assumes nothing.
+-- `mac::blocks_before` meets its contract.
 use native.Mathlib.Omega.{arith}
 use borrow.Author.Needs.{needs}
 use Rattle.cipher.specs.Cmac.{blocksBefore}

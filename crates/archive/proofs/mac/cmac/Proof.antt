@@ -1,4 +1,4 @@
--- `mac::cmac` meets its contract. Assumes nothing.
+-- `mac::cmac` meets its contract.
 use mathlib.Core.Path.{ap, _∙_}
 use Prim.Native.Nat.{_*_}
 use native.Mathlib.Omega.{arith}
@@ -17,8 +17,8 @@ use Rattle.archive.proofs.mac.cmac.Tie as tie
 mul-at : tie.Need-mul-at
 mul-at c = omega (arith, before-most (c .before .before .args .message .now) _ (c .blocks-before .ensures))
 
-chain-requires : tie.Need-chain-requires
-chain-requires c κs = before-most (c .before .before .args .message .now) _ (c .blocks-before .ensures)
+cbc-mac-requires : tie.Need-cbc-mac-requires
+cbc-mac-requires c κs = before-most (c .before .before .args .message .now) _ (c .blocks-before .ensures)
 
 sub-last-words : tie.Need-sub-last-words
 sub-last-words c = omega (arith, before-most (c .before .before .before .args .message .now) _ (c .before .blocks-before .ensures))
@@ -39,7 +39,7 @@ returns c =
     let b = l .before .before .before .before in
     let s = b .before .before in
     let m = s .args .message .now in
-    cmac-is (s .args .rows) (rounds (s .args .size)) m _ _ _ _ _ _ _ _ (b .blocks-before .ensures) (l .before .subkeys .ensures .0) (l .before .subkeys .ensures .1) (part-end m _) (bytes-of m (λ j h. omega (arith, b .before .shared-slice-known .given j))) (l .before .before .before .chain .ensures) (l .last-words .ensures) (c .before .encipher .ensures ∙ ap (forward (s .args .rows) (rounds (s .args .size))) (c .before .before .xor .ensures)) (c .bytes .ensures)
+    cmac-is (s .args .rows) (rounds (s .args .size)) m _ _ _ _ _ _ _ _ (b .blocks-before .ensures) (l .before .subkeys .ensures .0) (l .before .subkeys .ensures .1) (part-end m _) (bytes-of m (λ j h. omega (arith, b .before .shared-slice-known .given j))) (l .before .before .before .cbc-mac .ensures) (l .last-words .ensures) (c .before .encipher .ensures ∙ ap (forward (s .args .rows) (rounds (s .args .size))) (c .before .before .xor .ensures)) (c .bytes .ensures)
 
 pub cmac-spec : {M : Type 1} → statement M
-cmac-spec = tie.close (tie.spec (λ c κs. search needs) mul-at chain-requires sub-last-words part-last-words-start (λ c. search needs) (λ c κs. search needs) last-words-requires (λ c κs. search needs) (λ c κs. search needs) (λ c κs. search needs) returns)
+cmac-spec = tie.close (tie.spec (λ c κs. search needs) mul-at cbc-mac-requires sub-last-words part-last-words-start (λ c. search needs) (λ c κs. search needs) last-words-requires (λ c κs. search needs) (λ c κs. search needs) (λ c κs. search needs) returns)

@@ -1,4 +1,4 @@
--- `mac::filled` meets its contract. The invariant: the first k bytes are copied, the others zero. Assumes nothing.
+-- `mac::filled` meets its contract. The invariant: the first k bytes are copied, the others zero.
 use mathlib.Core.Path.{_≡_, refl}
 use mathlib.Core.List.{_++_}
 use Prim.Native.Nat.{_-_, _≤_}

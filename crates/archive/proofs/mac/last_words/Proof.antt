@@ -1,4 +1,4 @@
--- `mac::last_words` meets its contract. Assumes nothing.
+-- `mac::last_words` meets its contract.
 use mathlib.Core.Path.{ap₂, _∙_}
 use native.Mathlib.Omega.{arith}
 use borrow.Author.Needs.{needs}

@@ -1,4 +1,4 @@
--- `open::decodings` meets its contract. Assumes nothing.
+-- `open::decodings` meets its contract.
 use mathlib.Core.Path.{ap, _∙_}
 use borrow.Author.Needs.{needs}
 use Rattle.cipher.specs.Images.{imagesOf}

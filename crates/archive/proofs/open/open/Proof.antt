@@ -1,4 +1,4 @@
--- `open::open` meets its contract. Assumes nothing.
+-- `open::open` meets its contract.
 use mathlib.Core.Path.{_≡_, sym, _∙_}
 use Prim.Native.Nat.{_%_, _≤_, _<_}
 use native.Mathlib.Omega.{arith}
@@ -39,15 +39,15 @@ few-is c =
     let i = t .before .before in
     let s = i .before .before .before .before .before in
     let a = s .before .before .before .before .before .before .before .before .args in
-    few (a .key .now) (a .set .now) (a .iv .now) (a .sealed .now) (a .out .now) _ (sym (s .before .before .of-key-len .ensures) ∙ s .size .given .1) (set-is i) (i .if1 .left) (sym (t .before .bad-text .ensures) ∙ t .if2 .left) (r .before .if3 .left) (texts i .0) (texts i .1) _ _ _ _ (r .schedule .ensures) (c .before .before .before .before .before .decodings .ensures) (c .before .before .open-block .ensures) (c .before .padding .ensures) (c .if4 .left)
+    few (a .key .now) (a .set .now) (a .iv .now) (a .sealed .now) (a .out .now) _ (sym (s .before .before .of-key-len .ensures) ∙ s .size .given .1) (set-is i) (i .if1 .left) (sym (t .before .bad-text .ensures) ∙ t .if2 .left) (r .before .if3 .left) (texts i .0) (texts i .1) _ _ _ _ (r .key-rows .ensures) (c .before .before .before .before .before .decodings .ensures) (c .before .before .open-block .ensures) (c .before .padding .ensures) (c .if4 .left)
 
 -- what the functions on blocks ask for
-ready : (c : tie.After-decodings) → WordRows (c .before .before .schedule .result) × Table (c .decodings .last .1 .0)
+ready : (c : tie.After-decodings) → WordRows (c .before .before .key-rows .result) × Table (c .decodings .last .1 .0)
 ready c =
     let i = c .before .before .before .before .before .before in
     let q = i .before .before .before .before .before .before .before .before .before .before .before .before in
     let a = q .before .args in
-    (rows-ready _ (a .key .now) _ (c .before .before .schedule .ensures) (bytes-of (a .key .now) (λ j h. omega (arith, q .shared-slice-known .given j))), table-ready (a .set .now) _ (set-is i) (c .decodings .ensures))
+    (rows-ready _ (a .key .now) _ (c .before .before .key-rows .ensures) (bytes-of (a .key .now) (λ j h. omega (arith, q .shared-slice-known .given j))), table-ready (a .set .now) _ (set-is i) (c .decodings .ensures))
 
 returns : tie.Need-returns
 returns c = sym (open-1 _ _ _ _ _ (sym (c .before .before .of-key-len .ensures) ∙ c .enum-told .given .1))
@@ -76,8 +76,8 @@ returns-5 c =
     let s = i .before .before .before .before .before in
     sym (open-9 _ _ _ _ _ _ (sym (s .before .before .of-key-len .ensures) ∙ s .size .given .1) (set-is i) (i .if1 .left) (sym (t .before .bad-text .ensures) ∙ t .if2 .left) (c .if3 .taken))
 
-schedule-requires : tie.Need-schedule-requires
-schedule-requires c κs =
+key-rows-requires : tie.Need-key-rows-requires
+key-rows-requires c κs =
     let s = c .before .before .before .before .before .before .before .before in
     found-length keyLength _ _ (sym (s .before .before .of-key-len .ensures) ∙ s .size .given .1)
 
@@ -104,7 +104,7 @@ returns-6 c =
     let t = r .before .before in
     let i = t .before .before in
     let s = i .before .before .before .before .before in
-    sym (open-bad _ _ _ _ _ _ (sym (s .before .before .of-key-len .ensures) ∙ s .size .given .1) (set-is i) (i .if1 .left) (sym (t .before .bad-text .ensures) ∙ t .if2 .left) (r .before .if3 .left) (texts i .0) (texts i .1) _ _ _ _ (r .schedule .ensures) (c .before .before .before .before .before .decodings .ensures) (c .before .before .open-block .ensures) (c .before .padding .ensures) (c .if4 .taken))
+    sym (open-bad _ _ _ _ _ _ (sym (s .before .before .of-key-len .ensures) ∙ s .size .given .1) (set-is i) (i .if1 .left) (sym (t .before .bad-text .ensures) ∙ t .if2 .left) (r .before .if3 .left) (texts i .0) (texts i .1) _ _ _ _ (r .key-rows .ensures) (c .before .before .before .before .before .decodings .ensures) (c .before .before .open-block .ensures) (c .before .padding .ensures) (c .if4 .taken))
 
 open-blocks-requires : tie.Need-open-blocks-requires
 open-blocks-requires c κs =
@@ -130,7 +130,7 @@ put-part-requires c κs =
     let t = r .before .before in
     let i = t .before .before in
     let s = i .before .before .before .before .before in
-    (omega arith, room-left _ _ _ _ _ _ (sym (s .before .before .of-key-len .ensures) ∙ s .size .given .1) (set-is i) (i .if1 .left) (sym (t .before .bad-text .ensures) ∙ t .if2 .left) (r .before .if3 .left) (texts i .0) (texts i .1) _ _ _ _ (r .schedule .ensures) (f .before .before .before .before .before .decodings .ensures) (f .before .before .open-block .ensures) (f .before .padding .ensures) (f .if4 .left) _ (c .before .before .before .open-blocks .ensures))
+    (omega arith, room-left _ _ _ _ _ _ (sym (s .before .before .of-key-len .ensures) ∙ s .size .given .1) (set-is i) (i .if1 .left) (sym (t .before .bad-text .ensures) ∙ t .if2 .left) (r .before .if3 .left) (texts i .0) (texts i .1) _ _ _ _ (r .key-rows .ensures) (f .before .before .before .before .before .decodings .ensures) (f .before .before .open-block .ensures) (f .before .padding .ensures) (f .if4 .left) _ (c .before .before .before .open-blocks .ensures))
 
 sub-t15 : tie.Need-sub-t15
 sub-t15 c =
@@ -145,7 +145,7 @@ returns-7 c =
     let t = r .before .before in
     let i = t .before .before in
     let s = i .before .before .before .before .before in
-    open-made _ _ _ _ _ _ (sym (s .before .before .of-key-len .ensures) ∙ s .size .given .1) (set-is i) (i .if1 .left) (sym (t .before .bad-text .ensures) ∙ t .if2 .left) (r .before .if3 .left) (texts i .0) (texts i .1) _ _ _ _ (r .schedule .ensures) (f .before .before .before .before .before .decodings .ensures) (f .before .before .open-block .ensures) (f .before .padding .ensures) (f .if4 .left) _ _ (c .before .before .before .before .before .before .open-blocks .ensures) (c .before .before .put-part .ensures)
+    open-made _ _ _ _ _ _ (sym (s .before .before .of-key-len .ensures) ∙ s .size .given .1) (set-is i) (i .if1 .left) (sym (t .before .bad-text .ensures) ∙ t .if2 .left) (r .before .if3 .left) (texts i .0) (texts i .1) _ _ _ _ (r .key-rows .ensures) (f .before .before .before .before .before .decodings .ensures) (f .before .before .open-block .ensures) (f .before .padding .ensures) (f .if4 .left) _ _ (c .before .before .before .before .before .before .open-blocks .ensures) (c .before .before .put-part .ensures)
 
 pub open-spec : {M : Type 1} → statement M
-open-spec = tie.close (tie.spec (λ c κs. search needs) (λ c. search needs) (λ c. search needs) returns (λ c κs. search needs) (λ c. search needs) returns-2 (λ c. search needs) returns-3 (λ c κs. search needs) returns-4 returns-5 schedule-requires (λ c. search needs) decodings-requires sub-k (λ c. search needs) open-block-requires (λ c κs. search needs) returns-6 (λ c. search needs) open-blocks-requires mul-put-part sub-put-part put-part-requires sub-t15 (λ c. search needs) returns-7)
+open-spec = tie.close (tie.spec (λ c κs. search needs) (λ c. search needs) (λ c. search needs) returns (λ c κs. search needs) (λ c. search needs) returns-2 (λ c. search needs) returns-3 (λ c κs. search needs) returns-4 returns-5 key-rows-requires (λ c. search needs) decodings-requires sub-k (λ c. search needs) open-block-requires (λ c κs. search needs) returns-6 (λ c. search needs) open-blocks-requires mul-put-part sub-put-part put-part-requires sub-t15 (λ c. search needs) returns-7)

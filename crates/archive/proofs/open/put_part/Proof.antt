@@ -1,4 +1,4 @@
--- `open::put_part` meets its contract. The invariant: the first k bytes are in their places. Assumes nothing.
+-- `open::put_part` meets its contract. The invariant: the first k bytes are in their places.
 use mathlib.Core.Path.{_≡_, refl, ap, _∙_}
 use mathlib.Core.List.{List, _++_}
 use Prim.Native.Nat.{ℕ, _-_, _≤_}

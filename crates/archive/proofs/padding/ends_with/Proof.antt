@@ -1,4 +1,4 @@
--- `padding::ends_with` meets its contract. The invariant: the first k of those bytes are v. Assumes nothing.
+-- `padding::ends_with` meets its contract. The invariant: the first k of those bytes are v.
 use mathlib.Core.Path.{_≡_, refl, sym, ap, _∙_}
 use mathlib.Core.Bool.{Bool, true}
 use Prim.Native.Nat.{ℕ, _+_, _-_, _≤_}

@@ -1,4 +1,4 @@
--- `padding::padding` meets its contract. Assumes nothing.
+-- `padding::padding` meets its contract.
 use mathlib.Core.Path.{sym, _∙_}
 use native.Mathlib.Omega.{arith}
 use borrow.Author.Needs.{needs}

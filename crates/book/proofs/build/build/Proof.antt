@@ -1,4 +1,4 @@
--- `build::build` meets its contract. Assumes nothing.
+-- `build::build` meets its contract.
 use mathlib.Core.Path.{_≡_, refl, sym, ap, _∙_}
 use mathlib.Core.List.{List}
 use Prim.Native.Nat.{ℕ, _<_}
@@ -23,8 +23,8 @@ returns-3 c =
     let b = c .before .book-len .ensures in
     sym (built-room _ _ _ _ _ (c .before .before .before .before .before .before .size .given .0 .0) (sym (c .before .before .before .before .before .before .before .before .of-key-len .ensures) ∙ c .before .before .before .before .before .before .size .given .1) (checked-valid (c .before .before .before .before .before .before .size .given .0 .0) _ (sym (c .before .before .before .before .check-sized .ensures) ∙ sym (c .before .before .before .number .ensures) ∙ c .before .before .if1 .left)) (omega arith))
 
-schedule-requires : tie.Need-schedule-requires
-schedule-requires c κs = found-length keyLength _ _ (sym (c .before .before .before .before .before .before .before .before .of-key-len .ensures) ∙ c .before .before .before .before .before .before .size .given .1)
+key-rows-requires : tie.Need-key-rows-requires
+key-rows-requires c κs = found-length keyLength _ _ (sym (c .before .before .before .before .before .before .before .before .of-key-len .ensures) ∙ c .before .before .before .before .before .before .size .given .1)
 
 fill-requires : tie.Need-fill-requires
 fill-requires c κs =
@@ -37,7 +37,7 @@ returns-4 c =
     let z = c .before .before .before .before .before .before .before .before .before .before .before .size .given .0 .0 in
     let b = c .before .before .before .before .before .before .book-len .ensures in
     built-front _ _ _ _ _ z (sym (c .before .before .before .before .before .before .before .before .before .before .before .before .before .of-key-len .ensures) ∙ c .before .before .before .before .before .before .before .before .before .before .before .size .given .1) (checked-valid (c .before .before .before .before .before .before .before .before .before .before .before .size .given .0 .0) _ (sym (c .before .before .before .before .before .before .before .before .before .check-sized .ensures) ∙ sym (c .before .before .before .before .before .before .before .before .number .ensures) ∙ c .before .before .before .before .before .before .before .if1 .left)) (omega arith) (c .before .before .before .before .before .before .book-len .result) b _
-    (c .before .before .fill .ensures ∙ ap (λ (rows : List (List ℕ)). bookOf (rounds z) rows (e .args .chain .now)) (c .before .before .before .before .schedule .ensures))
+    (c .before .before .fill .ensures ∙ ap (λ (rows : List (List ℕ)). bookOf (rounds z) rows (e .args .chain .now)) (c .before .before .before .before .key-rows .ensures))
 
 pub build-spec : {M : Type 1} → statement M
-build-spec = tie.close (tie.spec (λ c κs. search needs) (λ c. search needs) (λ c. search needs) returns (λ c κs. search needs) (λ c κs. search needs) returns-2 (λ c κs. search needs) returns-3 schedule-requires (λ c. search needs) (λ c. search needs) (λ c. search needs) fill-requires (λ c. search needs) returns-4)
+build-spec = tie.close (tie.spec (λ c κs. search needs) (λ c. search needs) (λ c. search needs) returns (λ c κs. search needs) (λ c κs. search needs) returns-2 (λ c κs. search needs) returns-3 key-rows-requires (λ c. search needs) (λ c. search needs) (λ c. search needs) fill-requires (λ c. search needs) returns-4)

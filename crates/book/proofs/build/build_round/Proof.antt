@@ -1,4 +1,4 @@
--- `build::build_round` meets its contract. Assumes nothing.
+-- `build::build_round` meets its contract.
 use mathlib.Core.Path.{_≡_, refl, sym, _∙_}
 use Prim.Native.Nat.{_%_, _<_}
 use native.Mathlib.Omega.{arith}
@@ -21,8 +21,8 @@ returns-3 : tie.Need-returns-3
 returns-3 c =
     sym (built-room _ _ _ _ _ (c .before .before .before .before .before .size .given .0 .0) (sym (c .before .before .before .before .before .before .before .of-key-len .ensures) ∙ c .before .before .before .before .before .size .given .1) (checked-valid (c .before .before .before .before .before .size .given .0 .0) _ (sym (c .before .before .before .check-sized .ensures) ∙ sym (c .before .before .number .ensures) ∙ c .before .if1 .left)) (c .if2 .taken))
 
-schedule-requires : tie.Need-schedule-requires
-schedule-requires c κs = found-length keyLength _ _ (sym (c .before .before .before .before .before .before .before .of-key-len .ensures) ∙ c .before .before .before .before .before .size .given .1)
+key-rows-requires : tie.Need-key-rows-requires
+key-rows-requires c κs = found-length keyLength _ _ (sym (c .before .before .before .before .before .before .before .of-key-len .ensures) ∙ c .before .before .before .before .before .size .given .1)
 
 rem-at : tie.Need-rem-at
 rem-at c =
@@ -55,7 +55,7 @@ returns-4 c =
     let e = c .before .before .before .before .before .before .before .before .before .before .before .before .before .before .before .before .before .before in
     let z = c .before .before .before .before .before .before .before .before .before .before .before .before .size .given .0 .0 in
     built-done _ _ _ _ _ z (sym (c .before .before .before .before .before .before .before .before .before .before .before .before .before .before .of-key-len .ensures) ∙ c .before .before .before .before .before .before .before .before .before .before .before .before .size .given .1) (checked-valid (c .before .before .before .before .before .before .before .before .before .before .before .before .size .given .0 .0) _ (sym (c .before .before .before .before .before .before .before .before .before .before .check-sized .ensures) ∙ sym (c .before .before .before .before .before .before .before .before .before .number .ensures) ∙ c .before .before .before .before .before .before .before .before .if1 .left)) (omega arith) _
-    (round-is z (e .args .key .now) (e .args .chain .now) _ _ (e .args .l) _ (c .before .before .before .before .before .rounds .ensures) (c .before .before .before .before .before .before .schedule .ensures) (c .before .before .round-at .ensures))
+    (round-is z (e .args .key .now) (e .args .chain .now) _ _ (e .args .l) _ (c .before .before .before .before .before .rounds .ensures) (c .before .before .before .before .before .before .key-rows .ensures) (c .before .before .round-at .ensures))
 
 pub build-round-spec : {M : Type 1} → statement M
-build-round-spec = tie.close (tie.spec (λ c κs. search needs) (λ c. search needs) (λ c. search needs) returns (λ c κs. search needs) (λ c κs. search needs) returns-2 returns-3 schedule-requires (λ c κs. search needs) rem-at mul-round-at array-copy-out-round-at (λ c. search needs) (λ c. search needs) (λ c. search needs) round-at-requires (λ c. search needs) returns-4)
+build-round-spec = tie.close (tie.spec (λ c κs. search needs) (λ c. search needs) (λ c. search needs) returns (λ c κs. search needs) (λ c κs. search needs) returns-2 returns-3 key-rows-requires (λ c κs. search needs) rem-at mul-round-at array-copy-out-round-at (λ c. search needs) (λ c. search needs) (λ c. search needs) round-at-requires (λ c. search needs) returns-4)

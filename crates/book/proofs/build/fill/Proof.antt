@@ -1,4 +1,4 @@
--- `build::fill` meets its contract. Assumes nothing.
+-- `build::fill` meets its contract.
 use mathlib.Core.Path.{_≡_, sym, ap, _∙_}
 use Prim.Native.Nat.{ℕ, _+_, _-_, _*_}
 use native.Mathlib.Omega.{arith}
@@ -7,9 +7,9 @@ use lib.ListN.{length, length-drop}
 use lib.Seq.{length-take-le}
 use Rattle.lists.proofs.PartLaws.{part-end}
 use Rattle.cipher.specs.KeySize.{rounds}
-use Rattle.entries.specs.Made.{threeKeys}
+use Rattle.table_maker.specs.Made.{threeKeys}
 use Rattle.book.proofs.BuildLaws.{message-permutes}
-use Rattle.book.proofs.WholeLaws.{last-set, start-length, groups-length, groups-room, after-length, rounds-room, all-joined, all-length, rounds-length, behind, book-is}
+use Rattle.book.proofs.WholeLaws.{last-set, start-length, groups-length, groups-room, after-length, rounds-room, all-joined, all-length, rounds-length, after-first, book-is}
 use Rattle.book.proofs.build.fill.Statement.{statement}
 use Rattle.book.proofs.build.fill.Tie as tie
 
@@ -31,7 +31,7 @@ groups-requires c κs =
       s .1,
       message-permutes (e .args .size) ch (e .pre .0),
       omega (arith, e .pre .0 .size),
-      behind ch (omega (arith, e .pre .0 .size)),
+      after-first ch (omega (arith, e .pre .0 .size)),
       groups-room (c .before .before .before .before .before .start .last .1 .0) (e .args .out .now) _ (rounds (e .args .size)) (start-length _ _ (c .before .before .before .before .before .start .ensures)) (e .pre .1) (c .before .before .before .before .before .before .before .before .book-len .ensures),
     )
 

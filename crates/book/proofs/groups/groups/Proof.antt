@@ -1,4 +1,4 @@
--- `groups::groups` meets its contract. Assumes nothing.
+-- `groups::groups` meets its contract.
 use mathlib.Core.Path.{_∙_}
 use native.Mathlib.Omega.{arith}
 use borrow.Author.Needs.{needs}

@@ -1,4 +1,4 @@
--- `groups::start` meets its contract. The invariant: k bytes are written, and the rest is as it was. Assumes nothing.
+-- `groups::start` meets its contract. The invariant: k bytes are written, and the rest is as it was.
 use mathlib.Core.Path.{_≡_, refl, _∙_}
 use mathlib.Core.List.{_++_}
 use Prim.Native.Nat.{_-_, _≤_}

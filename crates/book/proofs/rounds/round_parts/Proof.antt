@@ -1,4 +1,4 @@
--- `rounds::round_parts` meets its contract. The invariant: l rounds are written, and the rest is as it was. Assumes nothing.
+-- `rounds::round_parts` meets its contract. The invariant: l rounds are written, and the rest is as it was.
 use mathlib.Core.Path.{_≡_, refl, ap, _∙_}
 use mathlib.Core.List.{List, [], _++_}
 use Prim.Native.Nat.{ℕ, _+_, _-_, _*_, _≤_, zero-le}

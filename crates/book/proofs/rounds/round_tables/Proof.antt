@@ -1,4 +1,4 @@
--- `rounds::round_tables` meets its contract. Assumes nothing.
+-- `rounds::round_tables` meets its contract.
 use mathlib.Core.Path.{_∙_}
 use native.Mathlib.Omega.{arith}
 use borrow.Author.Needs.{needs}

@@ -1,4 +1,4 @@
--- `block::bad_text` meets its contract. Assumes nothing.
+-- `block::bad_text` meets its contract.
 use mathlib.Core.Path.{sym, _∙_}
 use Rattle.cipher.proofs.AnswerLaws.{text-empty, text-long, text-left}
 use Rattle.cipher.proofs.block.bad_text.Statement.{statement}

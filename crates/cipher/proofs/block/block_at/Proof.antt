@@ -1,4 +1,4 @@
--- `block::block_at` meets its contract. The invariant: the first k bytes are those of the slice. Assumes nothing.
+-- `block::block_at` meets its contract. The invariant: the first k bytes are those of the slice.
 use mathlib.Core.Path.{_≡_, refl, _∙_}
 use mathlib.Core.List.{_++_}
 use Prim.Native.Nat.{_+_, _-_, _≤_}

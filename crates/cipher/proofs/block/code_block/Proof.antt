@@ -1,4 +1,4 @@
--- `block::code_block` meets its contract. The invariant: the first k bytes are coded, the others zero. Assumes nothing.
+-- `block::code_block` meets its contract. The invariant: the first k bytes are coded, the others zero.
 use mathlib.Core.Path.{_≡_, refl, sym, _∙_}
 use mathlib.Core.List.{_++_}
 use Prim.Native.Nat.{_-_, _≤_}

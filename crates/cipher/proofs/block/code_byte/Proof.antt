@@ -1,4 +1,4 @@
--- `block::code_byte` meets its contract. Assumes nothing.
+-- `block::code_byte` meets its contract.
 use mathlib.Core.Path.{_≡_, ap}
 use Prim.Native.Nat.{ℕ, _+_, _*_, _/_, _%_}
 use native.Mathlib.Omega.{arith}

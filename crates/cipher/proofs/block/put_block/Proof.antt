@@ -1,4 +1,4 @@
--- `block::put_block` meets its contract. The invariant: the first k bytes of the block are in their places. Assumes nothing.
+-- `block::put_block` meets its contract. The invariant: the first k bytes of the block are in their places.
 use mathlib.Core.Path.{_≡_, refl}
 use Prim.Native.Nat.{_-_, _≤_}
 use native.Mathlib.Omega.{arith}

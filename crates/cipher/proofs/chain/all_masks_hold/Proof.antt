@@ -1,4 +1,4 @@
--- `chain::all_masks_hold` meets its contract. The invariant: the masks of the first l rounds hold. Assumes nothing.
+-- `chain::all_masks_hold` meets its contract. The invariant: the masks of the first l rounds hold.
 use mathlib.Core.Path.{_≡_, refl, sym, ap, _∙_}
 use mathlib.Core.List.{List}
 use mathlib.Core.Bool.{true}

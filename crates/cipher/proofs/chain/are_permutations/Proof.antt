@@ -1,4 +1,4 @@
--- `chain::are_permutations` meets its contract. The invariant: the first k codings are permutations. Assumes nothing.
+-- `chain::are_permutations` meets its contract. The invariant: the first k codings are permutations.
 use mathlib.Core.Path.{_≡_, refl, sym, ap, _∙_}
 use mathlib.Core.Bool.{true}
 use Prim.Native.Nat.{ℕ, _≤_, _-_}

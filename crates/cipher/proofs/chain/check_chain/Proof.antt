@@ -1,4 +1,4 @@
--- `chain::check_chain` meets its contract. Assumes nothing.
+-- `chain::check_chain` meets its contract.
 use mathlib.Core.Path.{sym, _∙_}
 use borrow.Author.Needs.{needs}
 use Rattle.cipher.specs.Chain.{chainTests}

@@ -1,4 +1,4 @@
--- `chain::check_sized` meets its contract. Assumes nothing.
+-- `chain::check_sized` meets its contract.
 use mathlib.Core.Path.{_≡_, sym, ap, _∙_}
 use mathlib.Core.Bool.{Bool, true, false}
 use mathlib.Core.List.{List}

@@ -1,5 +1,5 @@
 -- `chain::is_permutation` meets its contract. The invariant: the first v images are below 16 and differ, and those are
--- marked. Assumes nothing.
+-- marked.
 use mathlib.Core.Path.{_≡_, refl, sym, ap, _∙_}
 use mathlib.Core.Bool.{true}
 use Prim.Native.Nat.{ℕ, _≤_, _-_}

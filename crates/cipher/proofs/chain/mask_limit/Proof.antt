@@ -1,4 +1,4 @@
--- `chain::mask_limit` meets its contract. Assumes nothing.
+-- `chain::mask_limit` meets its contract.
 use borrow.Author.Tests.{eq-eqb, ne-eqb}
 use Rattle.cipher.proofs.chain.mask_limit.Statement.{statement}
 use Rattle.cipher.proofs.chain.mask_limit.Tie as tie

@@ -1,4 +1,4 @@
--- `chain::masks_hold` meets its contract. The invariant: the first k masks are below their limits. Assumes nothing.
+-- `chain::masks_hold` meets its contract. The invariant: the first k masks are below their limits.
 use mathlib.Core.Path.{_≡_, refl, sym, ap, _∙_}
 use mathlib.Core.Bool.{true}
 use Prim.Native.Nat.{ℕ, _+_, _≤_, _-_}
@@ -42,4 +42,4 @@ returns-2 c =
     sym (h .loop .inv .1) ∙ ap (λ (n : ℕ). every n (λ k. ltb (getD (a .s .now) (384 + k) 0) (maskLimit k))) e
 
 pub masks-hold-spec : {M : Type 1} → statement M
-masks-hold-spec = tie.close (tie.spec Inv-loop μ-loop loop-holds (λ c κs. search needs) (λ c. search needs) (λ c. search needs) (λ c. search needs) returns (λ c. search needs) (λ c. search needs) loop-again returns-2)
+masks-hold-spec = tie.close (tie.spec Inv-loop μ-loop loop-holds (λ c κs. search needs) (λ c. search needs) (λ c. search needs) returns (λ c. search needs) (λ c. search needs) loop-again returns-2)

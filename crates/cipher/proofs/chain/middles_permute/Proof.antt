@@ -1,5 +1,4 @@
 -- `chain::middles_permute` meets its contract. The invariant: the middle codings of the first l rounds are permutations.
--- Assumes nothing.
 use mathlib.Core.Path.{_≡_, refl, sym, ap, _∙_}
 use mathlib.Core.Bool.{true}
 use Prim.Native.Nat.{ℕ, _+_, _*_, _≤_, _-_}

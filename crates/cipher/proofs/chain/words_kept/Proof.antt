@@ -1,4 +1,4 @@
--- `chain::words_kept` meets its contract. The invariant: the rule holds behind each of the first sets. Assumes nothing.
+-- `chain::words_kept` meets its contract. The invariant: the rule holds after each of the first sets.
 use mathlib.Core.Path.{_≡_, refl, sym, ap, _∙_}
 use mathlib.Core.Bool.{true, false}
 use Prim.Native.Nat.{ℕ, _+_, _*_, _≤_, _-_}

@@ -1,5 +1,4 @@
 -- `cmac::double` meets its contract. The invariant: the first k bytes are those of the double, the others zero.
--- Assumes nothing.
 use mathlib.Core.Path.{_≡_, refl}
 use mathlib.Core.List.{_++_}
 use Prim.Native.Nat.{_-_, _≤_}

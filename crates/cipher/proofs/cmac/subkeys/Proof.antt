@@ -1,4 +1,4 @@
--- `cmac::subkeys` meets its contract. Assumes nothing.
+-- `cmac::subkeys` meets its contract.
 use mathlib.Core.Path.{sym, ap, _∙_}
 use borrow.Author.Needs.{needs}
 use Rattle.cipher.specs.KeySize.{rounds}

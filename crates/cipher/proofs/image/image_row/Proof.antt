@@ -1,4 +1,4 @@
--- `image::image_row` meets its contract. The invariant: l bytes are written, and the rest is as it was. Assumes nothing.
+-- `image::image_row` meets its contract. The invariant: l bytes are written, and the rest is as it was.
 use mathlib.Core.Path.{_≡_, refl}
 use mathlib.Core.List.{_++_}
 use Prim.Native.Nat.{_+_, _-_, _*_, _≤_}

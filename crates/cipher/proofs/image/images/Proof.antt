@@ -1,4 +1,4 @@
--- `image::images` meets its contract. The invariant: r rows are written, and the rest is as it was. Assumes nothing.
+-- `image::images` meets its contract. The invariant: r rows are written, and the rest is as it was.
 use mathlib.Core.Path.{_≡_, refl, _∙_}
 use mathlib.Core.List.{_++_}
 use Prim.Native.Nat.{_+_, _-_, _*_, _/_, _%_, _≤_}

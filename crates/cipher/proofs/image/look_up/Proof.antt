@@ -1,4 +1,4 @@
--- `image::look_up` meets its contract. The invariant: k bytes are written, and the rest is as it was. Assumes nothing.
+-- `image::look_up` meets its contract. The invariant: k bytes are written, and the rest is as it was.
 use mathlib.Core.Path.{_≡_, refl, ap}
 use mathlib.Core.List.{_++_}
 use Prim.Native.Nat.{_-_, _≤_}

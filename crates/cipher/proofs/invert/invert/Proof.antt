@@ -1,4 +1,4 @@
--- `invert::invert` meets its contract. The invariant: k codings are inverted, and the rest is as it was. Assumes nothing.
+-- `invert::invert` meets its contract. The invariant: k codings are inverted, and the rest is as it was.
 use mathlib.Core.Path.{_≡_, refl, sym, ap, _∙_}
 use mathlib.Core.List.{_++_}
 use Prim.Native.Nat.{ℕ, _+_, _-_, _*_, _≤_, _<_}

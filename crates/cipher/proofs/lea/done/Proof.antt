@@ -1,4 +1,4 @@
--- `lea::done` meets its contract. Assumes nothing.
+-- `lea::done` meets its contract.
 use mathlib.Core.Path.{ap}
 use mathlib.Core.List.{List}
 use Prim.Native.Nat.{ℕ}

@@ -1,4 +1,4 @@
--- `lea::encipher` meets its contract. Assumes nothing.
+-- `lea::encipher` meets its contract.
 use mathlib.Core.Path.{sym, ap, ap₂, _∙_}
 use mathlib.Core.List.{List}
 use Prim.Native.Nat.{ℕ}
@@ -18,8 +18,8 @@ returns-2 c =
     let s = c .before .before .before in
     c .refused2 .ensures ∙ sym (on-length _ _ _ _ (sym (s .before .before .of-key-len .ensures) ∙ s .size .given .1) (c .before .if1 .taken))
 
-schedule-requires : tie.Need-schedule-requires
-schedule-requires c κs =
+key-rows-requires : tie.Need-key-rows-requires
+key-rows-requires c κs =
     let s = c .before .before in
     found-length keyLength _ _ (sym (s .before .before .of-key-len .ensures) ∙ s .size .given .1)
 
@@ -31,8 +31,8 @@ returns-3 c =
     c .done .ensures
     ∙ ap (λ (x : List ℕ). (0, L.bytes x))
     (c .before .encipher .ensures
-    ∙ ap₂ (λ (rows : List (List ℕ)) (w : List ℕ). L.forward rows (rounds z) w) (c .before .before .before .schedule .ensures) (c .before .before .words .ensures))
+    ∙ ap₂ (λ (rows : List (List ℕ)) (w : List ℕ). L.forward rows (rounds z) w) (c .before .before .before .key-rows .ensures) (c .before .before .words .ensures))
     ∙ sym (on-done _ _ _ z (sym (s .before .before .of-key-len .ensures) ∙ s .size .given .1) (c .before .before .before .before .if1 .left))
 
 pub encipher-spec : {M : Type 1} → statement M
-encipher-spec = tie.close (tie.spec (λ c κs. search needs) (λ c. search needs) (λ c. search needs) (λ c κs. search needs) returns (λ c κs. search needs) returns-2 schedule-requires (λ c κs. search needs) (λ c κs. search needs) (λ c κs. search needs) returns-3)
+encipher-spec = tie.close (tie.spec (λ c κs. search needs) (λ c. search needs) (λ c. search needs) (λ c κs. search needs) returns (λ c κs. search needs) returns-2 key-rows-requires (λ c κs. search needs) (λ c κs. search needs) (λ c κs. search needs) returns-3)

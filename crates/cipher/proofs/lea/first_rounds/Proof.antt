@@ -1,11 +1,12 @@
--- `lea::first_rounds` meets its contract. Assumes nothing.
+-- `lea::first_rounds` meets its contract.
 use mathlib.Core.Path.{sym, ap, ap₂, _∙_}
 use mathlib.Core.List.{List}
 use Prim.Native.Nat.{ℕ}
 use native.Mathlib.Omega.{arith}
 use borrow.Author.Needs.{needs}
+use Rattle.cipher.specs.Lea.{keyRows}
 use Rattle.cipher.specs.KeySize.{keyLength, rounds}
-use Rattle.cipher.specs.Schedule.{schedule, words4}
+use Rattle.cipher.specs.Schedule.{words4}
 use Rattle.cipher.specs.Lea as L
 use Rattle.cipher.proofs.KeySizeLaws.{found-length, rounds-le}
 use Rattle.cipher.proofs.AnswerLaws.{at-most, at-most-all, on-key, on-length, on-done}
@@ -20,8 +21,8 @@ returns-2 c =
     let s = c .before .before .before in
     c .refused2 .ensures ∙ sym (on-length _ _ _ _ (sym (s .before .before .of-key-len .ensures) ∙ s .size .given .1) (c .before .if1 .taken))
 
-schedule-requires : tie.Need-schedule-requires
-schedule-requires c κs =
+key-rows-requires : tie.Need-key-rows-requires
+key-rows-requires c κs =
     let s = c .before .before in
     found-length keyLength _ _ (sym (s .before .before .of-key-len .ensures) ∙ s .size .given .1)
 
@@ -41,8 +42,8 @@ returns-3 c =
     c .done .ensures
     ∙ ap (λ (x : List ℕ). (0, L.bytes x))
     (c .before .first-rounds .ensures
-    ∙ ap₂ (λ (rows : List (List ℕ)) (w : List ℕ). L.forward rows (a .n) w) (t .schedule .ensures) (c .before .before .words .ensures)
-    ∙ ap (λ (m : ℕ). L.forward (schedule z (a .key .now)) m (words4 (a .block .now))) (sym few))
+    ∙ ap₂ (λ (rows : List (List ℕ)) (w : List ℕ). L.forward rows (a .n) w) (t .key-rows .ensures) (c .before .before .words .ensures)
+    ∙ ap (λ (m : ℕ). L.forward (keyRows z (a .key .now)) m (words4 (a .block .now))) (sym few))
     ∙ sym (on-done _ _ _ z (sym (s .before .before .of-key-len .ensures) ∙ s .size .given .1) (t .before .if1 .left))
 
 returns-4 : tie.Need-returns-4
@@ -56,9 +57,9 @@ returns-4 c =
     c .done2 .ensures
     ∙ ap (λ (x : List ℕ). (0, L.bytes x))
     (c .before .encipher .ensures
-    ∙ ap₂ (λ (rows : List (List ℕ)) (w : List ℕ). L.forward rows (rounds z) w) (t .schedule .ensures) (c .before .before .words2 .ensures)
-    ∙ ap (λ (m : ℕ). L.forward (schedule z (a .key .now)) m (words4 (a .block .now))) (sym many))
+    ∙ ap₂ (λ (rows : List (List ℕ)) (w : List ℕ). L.forward rows (rounds z) w) (t .key-rows .ensures) (c .before .before .words2 .ensures)
+    ∙ ap (λ (m : ℕ). L.forward (keyRows z (a .key .now)) m (words4 (a .block .now))) (sym many))
     ∙ sym (on-done _ _ _ z (sym (s .before .before .of-key-len .ensures) ∙ s .size .given .1) (t .before .if1 .left))
 
 pub first-rounds-spec : {M : Type 1} → statement M
-first-rounds-spec = tie.close (tie.spec (λ c κs. search needs) (λ c. search needs) (λ c. search needs) (λ c κs. search needs) returns (λ c κs. search needs) returns-2 schedule-requires (λ c κs. search needs) (λ c κs. search needs) first-rounds-requires (λ c κs. search needs) returns-3 (λ c κs. search needs) (λ c κs. search needs) (λ c κs. search needs) returns-4)
+first-rounds-spec = tie.close (tie.spec (λ c κs. search needs) (λ c. search needs) (λ c. search needs) (λ c κs. search needs) returns (λ c κs. search needs) returns-2 key-rows-requires (λ c κs. search needs) (λ c κs. search needs) first-rounds-requires (λ c κs. search needs) returns-3 (λ c κs. search needs) (λ c κs. search needs) (λ c κs. search needs) returns-4)

@@ -1,4 +1,4 @@
--- `round::four_rounds` meets its contract. Assumes nothing.
+-- `round::four_rounds` meets its contract.
 use borrow.Author.Needs.{needs}
 use Rattle.cipher.proofs.round.four_rounds.Statement.{statement}
 use Rattle.cipher.proofs.round.four_rounds.Tie as tie

@@ -1,4 +1,4 @@
--- `round::four_unrounds` meets its contract. Assumes nothing.
+-- `round::four_unrounds` meets its contract.
 use borrow.Author.Needs.{needs}
 use Rattle.cipher.proofs.round.four_unrounds.Statement.{statement}
 use Rattle.cipher.proofs.round.four_unrounds.Tie as tie

@@ -1,4 +1,4 @@
--- `round::keyed` meets its contract. Assumes nothing.
+-- `round::keyed` meets its contract.
 use borrow.Author.Needs.{needs}
 use Rattle.cipher.specs.Word.{add, xor}
 use Rattle.cipher.specs.Lea.{keyed}

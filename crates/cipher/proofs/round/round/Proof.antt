@@ -1,4 +1,4 @@
--- `round::round` meets its contract. Assumes nothing.
+-- `round::round` meets its contract.
 use mathlib.Core.Path.{ap, _∙_}
 use mathlib.Core.List.{[], _∷_}
 use borrow.Author.Needs.{needs}

@@ -1,4 +1,4 @@
--- `round::unkeyed` meets its contract. Assumes nothing.
+-- `round::unkeyed` meets its contract.
 use mathlib.Core.Path.{ap}
 use Prim.Native.Nat.{ℕ}
 use native.Mathlib.Omega.{arith}

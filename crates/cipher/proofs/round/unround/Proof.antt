@@ -1,4 +1,4 @@
--- `round::unround` meets its contract. Assumes nothing.
+-- `round::unround` meets its contract.
 use mathlib.Core.Path.{ap, ap₂, _∙_}
 use mathlib.Core.List.{[], _∷_}
 use Prim.Native.Nat.{ℕ}

@@ -1,4 +1,4 @@
--- `rows::encipher` meets its contract. The invariant: 4 q rounds are done. Assumes nothing.
+-- `rows::encipher` meets its contract. The invariant: 4 q rounds are done.
 use mathlib.Core.Path.{_≡_, refl, sym, ap, _∙_}
 use mathlib.Core.List.{List, []}
 use Prim.Native.Nat.{ℕ, _+_, _*_, _/_, _-_, _≤_}

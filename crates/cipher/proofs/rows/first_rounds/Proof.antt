@@ -1,4 +1,4 @@
--- `rows::first_rounds` meets its contract. The invariant: i rounds are done. Assumes nothing.
+-- `rows::first_rounds` meets its contract. The invariant: i rounds are done.
 use mathlib.Core.Path.{_≡_, refl, sym, ap, _∙_}
 use Prim.Native.Nat.{ℕ, _-_, _≤_}
 use native.Mathlib.Omega.{arith}

@@ -1,4 +1,4 @@
--- `schedule::mixed` meets its contract. Assumes nothing.
+-- `schedule::mixed` meets its contract.
 use native.Mathlib.Nat.{zero-add}
 use borrow.Author.Needs.{needs}
 use Rattle.cipher.specs.Word.{add}

@@ -1,4 +1,4 @@
--- `schedule::mixed_four` meets its contract. Assumes nothing.
+-- `schedule::mixed_four` meets its contract.
 use mathlib.Core.List.{[], _∷_}
 use borrow.Author.Needs.{needs}
 use Rattle.cipher.specs.Schedule.{mixedFour}

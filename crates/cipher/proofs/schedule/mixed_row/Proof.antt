@@ -1,4 +1,4 @@
--- `schedule::mixed_row` meets its contract. Assumes nothing.
+-- `schedule::mixed_row` meets its contract.
 use mathlib.Core.List.{[], _∷_}
 use borrow.Author.Needs.{needs}
 use Rattle.cipher.specs.Schedule.{mixedRow}

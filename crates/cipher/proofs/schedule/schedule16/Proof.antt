@@ -1,5 +1,4 @@
 -- `schedule::schedule16` meets its contract. The invariant: i steps are made, their rows stored, and the queue of δ stands at step i.
--- Assumes nothing.
 use mathlib.Core.Path.{_≡_, refl, ap, ap₂, _∙_}
 use mathlib.Core.List.{List}
 use Prim.Native.Nat.{ℕ, _-_, _≤_}

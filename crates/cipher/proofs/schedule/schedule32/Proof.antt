@@ -1,5 +1,4 @@
 -- `schedule::schedule32` meets its contract. The invariant: i steps are made, their rows stored, and both queues stand at step i.
--- Assumes nothing.
 use mathlib.Core.Path.{_≡_, refl, sym, ap, ap₂, _∙_}
 use mathlib.Core.List.{List}
 use Prim.Native.Nat.{ℕ, _-_, _≤_}

@@ -1,4 +1,4 @@
--- `schedule::turned` meets its contract. Assumes nothing.
+-- `schedule::turned` meets its contract.
 use mathlib.Core.Path.{ap}
 use mathlib.Core.List.{[], _∷_, _++_}
 use Prim.Native.Nat.{ℕ, _+_}

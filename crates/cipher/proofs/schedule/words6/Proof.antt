@@ -1,4 +1,4 @@
--- `schedule::words6` meets its contract. Assumes nothing.
+-- `schedule::words6` meets its contract.
 use mathlib.Core.List.{[], _∷_}
 use borrow.Author.Needs.{needs}
 use lib.ListN.{getD}

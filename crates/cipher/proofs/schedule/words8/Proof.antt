@@ -1,4 +1,4 @@
--- `schedule::words8` meets its contract. Assumes nothing.
+-- `schedule::words8` meets its contract.
 use mathlib.Core.List.{[], _∷_}
 use borrow.Author.Needs.{needs}
 use lib.ListN.{getD}

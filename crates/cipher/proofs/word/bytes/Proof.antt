@@ -1,4 +1,4 @@
--- `word::bytes` meets its contract. Assumes nothing.
+-- `word::bytes` meets its contract.
 use mathlib.Core.List.{[], _∷_}
 use borrow.Author.Needs.{needs}
 use lib.ListN.{getD}

@@ -1,4 +1,4 @@
--- `word::bytes_of` meets its contract. Assumes nothing.
+-- `word::bytes_of` meets its contract.
 use borrow.Author.Needs.{needs}
 use Rattle.cipher.specs.Word.{bytesOf}
 use Rattle.cipher.proofs.word.bytes_of.Statement.{statement}

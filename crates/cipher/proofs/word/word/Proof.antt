@@ -1,4 +1,4 @@
--- `word::word` meets its contract. Assumes nothing.
+-- `word::word` meets its contract.
 use borrow.Author.Needs.{needs}
 use Rattle.cipher.specs.Word as W
 use Rattle.cipher.proofs.word.word.Statement.{statement}

@@ -1,4 +1,4 @@
--- `word::word_at` meets its contract. Assumes nothing.
+-- `word::word_at` meets its contract.
 use borrow.Author.Needs.{needs}
 use Rattle.cipher.specs.Word.{wordAt}
 use Rattle.cipher.proofs.word.word_at.Statement.{statement}

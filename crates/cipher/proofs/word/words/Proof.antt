@@ -1,4 +1,4 @@
--- `word::words` meets its contract. Assumes nothing.
+-- `word::words` meets its contract.
 use mathlib.Core.List.{[], _∷_}
 use borrow.Author.Needs.{needs}
 use Rattle.cipher.specs.Schedule.{words4}

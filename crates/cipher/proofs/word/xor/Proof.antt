@@ -1,4 +1,4 @@
--- `word::xor` meets its contract. Assumes nothing.
+-- `word::xor` meets its contract.
 use borrow.Author.Needs.{needs}
 use Rattle.cipher.specs.Word.{xor, xorWords}
 use Rattle.cipher.proofs.word.xor.Statement.{statement}

@@ -1,7 +1,6 @@
 -- `lent::begin` meets its contract: a walk of its code by hand, written by tools/lent_calls.py. The borrow is opened, the session is read
 -- out whole and passed to `session::begin_over`, the session that this hands back is stored whole, the borrow is closed, and the
 -- answer is returned. All that is known of `session::begin_over` is that it meets its contract.
--- Assumes nothing.
 use mathlib.Core.Path.{_≡_, refl, ap}
 use mathlib.Core.List.{[], _∷_, List}
 use Prim.Native.Nat.{ℕ}

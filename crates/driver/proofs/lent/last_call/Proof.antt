@@ -1,7 +1,6 @@
 -- `lent::last_call` meets its contract: a walk of its code by hand, written by tools/lent_calls.py. The borrow is opened, the session is read
 -- out whole and passed to `session::last_call`, the session that this hands back is stored whole, the borrow is closed, and the
 -- answer is returned. All that is known of `session::last_call` is that it meets its contract.
--- Assumes nothing.
 use mathlib.Core.Path.{_≡_, refl, ap}
 use mathlib.Core.List.{[], _∷_, List}
 use Prim.Native.Nat.{ℕ, _<_, _^_}
@@ -43,9 +42,9 @@ use denote.Triple.Table.{entered, cited}
 use denote.Triple.Walked.{says, Stays, stay-ref, stay-none, stay-none-slice, walkOf, goes-ref, goes-none, goes-none-slice, Walks, ends-at, walked, walk-meets}
 use denote.Exit.{yes}
 use denote.Builtin.{u8}
-use Rattle.cipher.specs.declared.lea.BlockAnswer.{BlockAnswer}
-use Rattle.cipher.proofs.lea.BlockAnswer as R
-use Rattle.cipher.proofs.lea.BlockAnswer.Laws as R′
+use Rattle.cipher.specs.declared.answer.BlockAnswer.{BlockAnswer}
+use Rattle.cipher.proofs.answer.BlockAnswer as R
+use Rattle.cipher.proofs.answer.BlockAnswer.Laws as R′
 use Rattle.driver.specs.Driver.{tagTold, lastAnswer}
 use Rattle.driver.specs.declared.session.Session.{Session}
 use Rattle.driver.specs.declared.session.TagAnswer.{TagAnswer}

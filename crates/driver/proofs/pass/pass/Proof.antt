@@ -1,4 +1,4 @@
--- `pass::pass` meets its contract. Assumes nothing.
+-- `pass::pass` meets its contract.
 use native.Mathlib.Omega.{arith}
 use borrow.Author.Needs.{needs}
 use Rattle.cipher.proofs.KeySizeLaws.{rounds-le}

@@ -1,11 +1,11 @@
--- `run::run_round` meets its contract. Assumes nothing.
+-- `run::run_round` meets its contract.
 use mathlib.Core.Path.{sym, ap, _∙_}
 use mathlib.Core.List.{List}
 use Prim.Native.Nat.{ℕ}
 use native.Mathlib.Omega.{arith}
 use borrow.Author.Needs.{needs}
 use Rattle.cipher.specs.Tables.{tableRound}
-use Rattle.lookup.proofs.Typed.{array-block}
+use Rattle.table_reader.proofs.Typed.{array-block}
 use Rattle.driver.proofs.AnswerLaws.{whole, round-6, round-7, round-done}
 use Rattle.driver.proofs.run.run_round.Statement.{statement}
 use Rattle.driver.proofs.run.run_round.Tie as tie

@@ -1,4 +1,4 @@
--- `run::run_rounds` meets its contract. Assumes nothing.
+-- `run::run_rounds` meets its contract.
 use mathlib.Core.Path.{sym, ap, ap₂, _∙_}
 use mathlib.Core.List.{List}
 use Prim.Native.Nat.{ℕ}

@@ -1,4 +1,4 @@
--- `seal::seal` meets its contract. Assumes nothing.
+-- `seal::seal` meets its contract.
 use mathlib.Core.Path.{sym, _∙_}
 use native.Mathlib.Omega.{arith}
 use borrow.Author.Needs.{needs}

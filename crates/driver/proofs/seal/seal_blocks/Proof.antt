@@ -1,4 +1,4 @@
--- `seal::seal_blocks` meets its contract. The invariant: k blocks are sealed, and x is the last of them. Assumes nothing.
+-- `seal::seal_blocks` meets its contract. The invariant: k blocks are sealed, and x is the last of them.
 use mathlib.Core.Path.{_≡_, refl, ap, _∙_}
 use mathlib.Core.List.{_++_, flatten}
 use Prim.Native.Nat.{ℕ, _-_, _*_, _≤_}
@@ -6,19 +6,19 @@ use native.Mathlib.Omega.{arith}
 use borrow.Author.Needs.{needs}
 use lib.ListN.{length, drop}
 use Rattle.lists.specs.Blocks.{cut}
-use Rattle.driver.specs.Driver.{chainFrom, pass}
-use Rattle.driver.proofs.SealLaws.{chainEnd, done, seal-end, seal-turn}
+use Rattle.driver.specs.Driver.{passedFrom, pass}
+use Rattle.driver.proofs.SealLaws.{passedLast, done, seal-end, seal-turn}
 use Rattle.driver.proofs.seal.seal_blocks.Statement.{statement}
 use Rattle.driver.proofs.seal.seal_blocks.Tie as tie
 
 abbrev Inv-loop : tie.InvT-loop
-Inv-loop size book coded n out₀ x₀ k₀ out x k = (k ≤ n) × (x ≡ chainEnd (pass book 0) x₀ (cut k coded)) × (out ≡ done book x₀ coded out₀ k ++ drop (16 * k) out₀) × (length out ≡ length out₀)
+Inv-loop size book coded n out₀ x₀ k₀ out x k = (k ≤ n) × (x ≡ passedLast (pass book 0) x₀ (cut k coded)) × (out ≡ done book x₀ coded out₀ k ++ drop (16 * k) out₀) × (length out ≡ length out₀)
 
 abbrev μ-loop : tie.MeasureT-loop
 μ-loop size book coded n out₀ x₀ k₀ out x k = n - k
 
 loop-holds : tie.Need-loop-holds Inv-loop μ-loop
-unfolding cut chainEnd chainFrom flatten
+unfolding cut passedLast passedFrom flatten
 loop-holds c = (omega arith, refl, refl, refl)
 
 loop-again : tie.Need-loop-again Inv-loop μ-loop

@@ -1,4 +1,4 @@
--- `session::begin` meets its contract. Assumes nothing.
+-- `session::begin` meets its contract.
 use borrow.Author.Needs.{needs}
 use Rattle.driver.specs.Driver.{beginAnswer}
 use Rattle.driver.proofs.session.begin.Statement.{statement}

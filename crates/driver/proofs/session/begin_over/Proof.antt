@@ -1,4 +1,4 @@
--- `session::begin_over` meets its contract. Assumes nothing.
+-- `session::begin_over` meets its contract.
 use mathlib.Core.Path.{sym, ap, _∙_}
 use mathlib.Core.List.{List}
 use Prim.Native.Nat.{ℕ}

@@ -1,4 +1,4 @@
--- `session::no_tag` meets its contract. Assumes nothing.
+-- `session::no_tag` meets its contract.
 use mathlib.Core.Path.{ap}
 use mathlib.Core.List.{List}
 use Prim.Native.Nat.{ℕ}

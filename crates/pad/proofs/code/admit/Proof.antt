@@ -1,4 +1,4 @@
--- `code::admit` meets its contract. Assumes nothing.
+-- `code::admit` meets its contract.
 use mathlib.Core.Path.{sym, _∙_}
 use borrow.Author.Needs.{needs}
 use Rattle.cipher.specs.Chain.{LoneSet}

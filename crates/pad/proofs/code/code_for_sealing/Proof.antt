@@ -1,4 +1,4 @@
--- `code::code_for_sealing` meets its contract. Assumes nothing.
+-- `code::code_for_sealing` meets its contract.
 use mathlib.Core.Path.{sym, ap}
 use Prim.Native.Nat.{ℕ, _+_, _/_}
 use native.Mathlib.Omega.{arith}

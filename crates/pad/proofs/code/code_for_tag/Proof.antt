@@ -1,4 +1,4 @@
--- `code::code_for_tag` meets its contract. Assumes nothing.
+-- `code::code_for_tag` meets its contract.
 use mathlib.Core.Path.{_≡_, sym, ap, ap₂, _∙_}
 use mathlib.Core.List.{_∷_}
 use Prim.Native.Nat.{ℕ, _+_, _-_, _/_}

@@ -1,4 +1,4 @@
--- `code::kind_of` meets its contract. Assumes nothing.
+-- `code::kind_of` meets its contract.
 use mathlib.Core.Path.{sym}
 use Rattle.pad.proofs.PadLaws.{kind-empty, kind-whole, kind-part}
 use Rattle.pad.proofs.code.kind_of.Statement.{statement}

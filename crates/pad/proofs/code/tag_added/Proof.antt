@@ -1,4 +1,4 @@
--- `code::tag_added` meets its contract. Assumes nothing.
+-- `code::tag_added` meets its contract.
 use mathlib.Core.Path.{sym, _∙_}
 use borrow.Author.Needs.{needs}
 use Rattle.pad.proofs.PadLaws.{added-none, added-some}

@@ -1,4 +1,4 @@
--- `text::code_blocks` meets its contract. The invariant: k blocks are coded, and the rest is as it was. Assumes nothing.
+-- `text::code_blocks` meets its contract. The invariant: k blocks are coded, and the rest is as it was.
 use mathlib.Core.Path.{_≡_, refl, _∙_}
 use mathlib.Core.List.{_++_}
 use Prim.Native.Nat.{_+_, _-_, _*_, _≤_}

@@ -1,5 +1,4 @@
 -- `text::code_part` meets its contract. The invariant: i bytes are written from place `from` on, and the rest is as it was.
--- Assumes nothing.
 use mathlib.Core.Path.{_≡_, refl, ap}
 use mathlib.Core.List.{_++_}
 use Prim.Native.Nat.{_+_, _-_, _%_, _≤_}

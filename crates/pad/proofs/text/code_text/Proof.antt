@@ -1,4 +1,4 @@
--- `text::code_text` meets its contract. Assumes nothing.
+-- `text::code_text` meets its contract.
 use Prim.Native.Nat.{_*_, _/_}
 use native.Mathlib.Omega.{arith}
 use borrow.Author.Needs.{needs}

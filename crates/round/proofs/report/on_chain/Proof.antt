@@ -1,4 +1,4 @@
--- `report::on_chain` meets its contract. Assumes nothing.
+-- `report::on_chain` meets its contract.
 use mathlib.Core.Path.{sym, ap, _∙_}
 use mathlib.Core.List.{List}
 use Prim.Native.Nat.{ℕ}

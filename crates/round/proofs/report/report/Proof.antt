@@ -1,11 +1,11 @@
--- `report::report` meets its contract. Assumes nothing.
+-- `report::report` meets its contract.
 use mathlib.Core.Path.{sym, ap, _∙_}
 use Prim.Native.Nat.{ℕ}
 use native.Mathlib.Omega.{arith}
 use borrow.Author.Needs.{needs}
 use Rattle.cipher.specs.KeySize.{sizeOfKey}
 use Rattle.round.specs.Text.{refusedText, shown}
-use Rattle.round.proofs.AnswerLaws.{no-length, printed-length, printed-key, printed-behind, input-is, key-whole, key-short, key-length}
+use Rattle.round.proofs.AnswerLaws.{no-length, printed-length, printed-key, printed-after, input-is, key-whole, key-short, key-length}
 use Rattle.round.proofs.report.report.Statement.{statement}
 use Rattle.round.proofs.report.report.Tie as tie
 
@@ -50,7 +50,7 @@ returns-4 c =
     let e = o .before .before .before .before .before in
     c .on-rest .ensures
     ∙ ap shown (input-is (e .args .input .now) _ (o .before .wide .ensures .0) (s .size .given .0 .0)
-    ∙ sym (printed-behind (e .args .input .now) (s .size .given .0 .0) (ap sizeOfKey (sym (o .before .wide .ensures .0)) ∙ sym (o .of-key-len .ensures) ∙ s .size .given .1)
+    ∙ sym (printed-after (e .args .input .now) (s .size .given .0 .0) (ap sizeOfKey (sym (o .before .wide .ensures .0)) ∙ sym (o .of-key-len .ensures) ∙ s .size .given .1)
     (key-whole (e .args .input .now) _ (o .before .wide .ensures .0) (t .if2 .left))))
 
 pub report-spec : {M : Type 1} → statement M

@@ -1,4 +1,4 @@
--- `report::run` meets its contract. Assumes nothing.
+-- `report::run` meets its contract.
 use mathlib.Core.Path.{ap, _∙_}
 use native.Mathlib.Omega.{arith}
 use borrow.Author.Needs.{needs}

@@ -1,4 +1,4 @@
--- `rounds::later_rounds` meets its contract. The invariant: the rounds below l are run. Assumes nothing.
+-- `rounds::later_rounds` meets its contract. The invariant: the rounds below l are run.
 use mathlib.Core.Path.{_≡_, refl, ap, _∙_}
 use Prim.Native.Nat.{ℕ, _-_, _≤_}
 use native.Mathlib.Omega.{arith}

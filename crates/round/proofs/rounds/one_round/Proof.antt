@@ -1,4 +1,4 @@
--- `rounds::one_round` meets its contract. Assumes nothing.
+-- `rounds::one_round` meets its contract.
 use mathlib.Core.Path.{sym}
 use borrow.Author.Needs.{needs}
 use Rattle.round.proofs.RoundLaws.{round-run}

@@ -1,4 +1,4 @@
--- `rounds::opened` meets its contract. Assumes nothing.
+-- `rounds::opened` meets its contract.
 use mathlib.Core.Path.{refl}
 use borrow.Author.Needs.{needs}
 use Rattle.round.proofs.RoundLaws.{set-there, set-permutes, inverse-there, inverse-low, opened-is}

@@ -1,4 +1,4 @@
--- `text::digit` meets its contract. Assumes nothing.
+-- `text::digit` meets its contract.
 use borrow.Author.Needs.{needs}
 use Rattle.round.proofs.TextLaws.{digit-low, digit-high}
 use Rattle.round.proofs.text.digit.Statement.{statement}

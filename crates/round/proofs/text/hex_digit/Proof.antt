@@ -1,4 +1,4 @@
--- `text::hex_digit` meets its contract. Assumes nothing.
+-- `text::hex_digit` meets its contract.
 use mathlib.Core.Path.{_∙_}
 use borrow.Author.Needs.{needs}
 use Rattle.round.proofs.TextLaws.{hex-upper, hex-lower}

@@ -1,4 +1,4 @@
--- `text::put_hex` meets its contract. The invariant: k digits are written. Assumes nothing.
+-- `text::put_hex` meets its contract. The invariant: k digits are written.
 use mathlib.Core.Path.{_≡_, refl, _∙_}
 use mathlib.Core.List.{_++_}
 use Prim.Native.Nat.{_-_, _/_, _≤_}

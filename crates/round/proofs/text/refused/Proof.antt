@@ -1,4 +1,4 @@
--- `text::refused` meets its contract. Assumes nothing.
+-- `text::refused` meets its contract.
 use borrow.Author.Needs.{needs}
 use Rattle.round.proofs.TextLaws.{refused-is}
 use Rattle.round.proofs.text.refused.Statement.{statement}

@@ -1,4 +1,4 @@
--- `text::two_lines` meets its contract. Assumes nothing.
+-- `text::two_lines` meets its contract.
 use borrow.Author.Needs.{needs}
 use Rattle.round.proofs.TextLaws.{two-lines-is}
 use Rattle.round.proofs.text.two_lines.Statement.{statement}

@@ -1,4 +1,4 @@
--- `print::four` is safe and ends. Assumes nothing.
+-- `print::four` is safe and ends.
 use Prim.Native.Nat.{_-_, _≤_}
 use borrow.Author.Needs.{needs}
 use Rattle.walkthrough.proofs.print.four.Statement.{statement}

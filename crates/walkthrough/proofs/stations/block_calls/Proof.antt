@@ -1,4 +1,4 @@
--- `stations::block_calls` is safe and ends. Assumes nothing.
+-- `stations::block_calls` is safe and ends.
 use Prim.Native.Nat.{_-_, _≤_}
 use borrow.Author.Needs.{needs}
 use Rattle.walkthrough.proofs.stations.block_calls.Statement.{statement}

@@ -1,4 +1,4 @@
--- `stations::put_flipped` is safe and ends. Assumes nothing.
+-- `stations::put_flipped` is safe and ends.
 use mathlib.Core.Path.{_≡_}
 use Prim.Native.Nat.{_-_, _≤_}
 use borrow.Author.Needs.{needs}

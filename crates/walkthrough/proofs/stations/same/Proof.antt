@@ -1,4 +1,4 @@
--- `stations::same` is safe and ends. Assumes nothing.
+-- `stations::same` is safe and ends.
 use Prim.Native.Nat.{_-_, _≤_}
 use borrow.Author.Needs.{needs}
 use Rattle.walkthrough.proofs.stations.same.Statement.{statement}

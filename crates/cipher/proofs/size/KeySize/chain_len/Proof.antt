@@ -1,4 +1,4 @@
--- `size::KeySize::chain_len` meets its contract. Assumes nothing.
+-- `size::KeySize::chain_len` meets its contract.
 use native.Mathlib.Omega.{arith}
 use borrow.Author.Needs.{needs}
 use Rattle.cipher.proofs.KeySizeLaws.{rounds-le}

@@ -1,3 +1,0 @@
-pub mod Into
-pub mod Chain
-pub mod Session

@@ -1,0 +1,5 @@
+pub mod StepLaws
+pub mod StartLaws
+pub mod SealRoundtrip
+pub mod TagRoundtrip
+pub mod Unrefused

@@ -1,0 +1,2 @@
+pub mod Roundtrips
+pub mod Steps

@@ -1,0 +1,194 @@
+-- Laws of the tables as the builder makes them: their lengths, and the parts of a turned half byte.
+use mathlib.Core.Path.{_≡_, refl, ap, ap₂, _∙_}
+use mathlib.Core.List.{List, [], _∷_}
+use Prim.Native.Nat.{ℕ, zero, suc, _+_, _-_, _*_, _/_, _%_, _≤_, _<_}
+use native.Mathlib.Nat.{not-suc-le-zero, le-of-suc-le-suc}
+use native.Mathlib.Omega.{arith}
+use lib.Bits.{bitXor, xor-lt}
+use lib.Dec.{lit<}
+use lib.ListN.{length, getD, drop, length-drop}
+use lib.Seq.{getD-drop}
+use Rattle.lists.specs.Tabulation.{tab, chunks}
+use Rattle.lists.specs.Blocks.{Below}
+use Rattle.lists.specs.HalfBytes.{halfByte}
+use Rattle.lists.proofs.TabulationLaws.{length-tab, getD-tab}
+use Rattle.lists.proofs.ChunkLaws.{length-chunks}
+use Rattle.cipher.specs.Coding.{blockHalf}
+use Rattle.cipher.specs.Tables.{upper, lower}
+use Rattle.table_maker.specs.Rows.{sumRow, sumTable, SumsFit, xorRow, xorTable, XorsFit}
+use Rattle.table_maker.specs.Made.{keyedBy, summands, sumEntries, madeAdd, upperPart, lowerPart, upperParts, lowerParts, madeTurn, madeFold}
+use Rattle.table_maker.proofs.RowLaws.{length-sum-row, length-xor-row}
+
+-- ---- lengths
+
+module _ (e a b : List ℕ) where
+  sum-size : length (sumTable e a b) ≡ length a * 16
+  unfolding sumTable
+  sum-size = length-chunks (λ x. sumRow e (getD a x 0) b) 16 (λ x. length-sum-row e (getD a x 0) b) (length a)
+
+  xor-size : length (xorTable e a b) ≡ length a * 16
+  unfolding xorTable
+  xor-size = length-chunks (λ x. xorRow e (getD a x 0) b) 16 (λ x. length-xor-row e (getD a x 0) b) (length a)
+
+pub length-add : (s R k : List ℕ) (p : ℕ) → length (madeAdd s R k p) ≡ 512
+unfolding madeAdd
+length-add s R k p = sum-size _ _ _ ∙ ap (λ (n : ℕ). n * 16) (length-tab 32 _)
+
+pub length-turn : (s S : List ℕ) (p : ℕ) → length (madeTurn s S p) ≡ 256
+unfolding madeTurn
+length-turn s S p = sum-size _ _ _ ∙ ap (λ (n : ℕ). n * 16) (length-tab 16 _)
+
+pub length-fold : (s u S k : List ℕ) (p : ℕ) → length (madeFold s u S k p) ≡ 256
+unfolding madeFold
+length-fold s u S k p = xor-size _ _ _ ∙ ap (λ (n : ℕ). n * 16) (length-tab 16 _)
+
+-- ---- turned half bytes
+
+pub upper-one : (i u : ℕ) → i ≡ 1 → 8 * u % 16 ≡ upperPart i u
+upper-one i u e = rw e
+
+pub upper-other : (i u : ℕ) → (i ≡ 1 → ⊥) → 2 * u % 16 ≡ upperPart i u
+upper-other zero u h = refl
+upper-other (suc zero) u h = absurd (h refl)
+upper-other (suc (suc i)) u h = refl
+
+pub lower-one : (i v : ℕ) → i ≡ 1 → v / 2 ≡ lowerPart i v
+lower-one i v e = rw e
+
+pub lower-other : (i v : ℕ) → (i ≡ 1 → ⊥) → v / 8 ≡ lowerPart i v
+lower-other zero v h = refl
+lower-other (suc zero) v h = absurd (h refl)
+lower-other (suc (suc i)) v h = refl
+
+pub parts-lt : (i u v : ℕ) → v < 16 → upperPart i u + lowerPart i v < 16
+parts-lt zero u v h = omega arith
+parts-lt (suc zero) u v h = omega arith
+parts-lt (suc (suc i)) u v h = omega arith
+
+-- where the two half bytes of a sum stand
+pub upper-is : (i j : ℕ) → i < 3 → (j + getD (6 ∷ 2 ∷ 1 ∷ []) i 0) % 8 ≡ upper i j
+upper-is zero j h = refl
+upper-is (suc zero) j h = refl
+upper-is (suc (suc zero)) j h = refl
+upper-is (suc (suc (suc i))) j h = absurd (not-suc-le-zero (le-of-suc-le-suc (le-of-suc-le-suc (le-of-suc-le-suc h))))
+
+pub lower-is : (i j : ℕ) → i < 3 → j < 8 → (j + getD (5 ∷ 1 ∷ 0 ∷ []) i 0) % 8 ≡ lower i j
+lower-is zero j h k = refl
+lower-is (suc zero) j h k = refl
+lower-is (suc (suc zero)) j h k = omega arith
+lower-is (suc (suc (suc i))) j h k = absurd (not-suc-le-zero (le-of-suc-le-suc (le-of-suc-le-suc (le-of-suc-le-suc h))))
+
+-- the half of a byte that is half byte p of its block
+pub half-even : (b p : ℕ) → p % 2 ≡ 0 → b % 16 ≡ halfByte b (p % 2)
+unfolding halfByte
+half-even b p e = rw e
+
+pub half-odd : (b p : ℕ) → (p % 2 ≡ 0 → ⊥) → b / 16 % 16 ≡ halfByte b (p % 2)
+unfolding halfByte
+half-odd b p h =
+    let e : p % 2 ≡ 1 = omega arith in
+    rw e
+
+pub block-half-is : (k : List ℕ) (p : ℕ) → halfByte (getD k (p / 2) 0) (p % 2) ≡ blockHalf k (p / 8) (p % 8)
+unfolding blockHalf
+block-half-is k p =
+    let e : p / 2 ≡ 4 * (p / 8) + p % 8 / 2 = omega arith in
+    let d : p % 2 ≡ p % 8 % 2 = omega arith in
+    ap₂ (λ (x y : ℕ). halfByte (getD k x 0) y) e d
+
+pub upper-low : (i : ℕ) → getD (6 ∷ 2 ∷ 1 ∷ []) i 0 < 8
+upper-low zero = lit< tt
+upper-low (suc zero) = lit< tt
+upper-low (suc (suc zero)) = lit< tt
+upper-low (suc (suc (suc i))) = lit< tt
+
+pub lower-low : (i : ℕ) → getD (5 ∷ 1 ∷ 0 ∷ []) i 0 < 8
+lower-low zero = lit< tt
+lower-low (suc zero) = lit< tt
+lower-low (suc (suc zero)) = lit< tt
+lower-low (suc (suc (suc i))) = lit< tt
+
+-- ---- a table from its prepared parts a, b and e: the look-ups stay inside e, and it is the table that is named
+
+module _ (s a b e : List ℕ) (n k l m : ℕ) (at at' : ℕ) (f : ℕ → ℕ) (ea : a ≡ tab 32 (summands s at k m)) (eb : b ≡ tab 16 (keyedBy s at' l))
+    (ee : e ≡ tab 32 f) (h : Below 16 s) (hk : k < 16) (hl : l < 16) (hm : m < 2) (room : n ≡ 512) where
+  pub add-fits : (16 ≤ length b) × (n ≡ length a * 16) × SumsFit e a b
+  add-fits = (omega (arith, lb), omega (arith, la), λ x q hx hq. fit x q (omega (arith, la)) hq)
+    where
+      la : length a ≡ 32
+      la = ap length ea ∙ length-tab 32 (summands s at k m)
+
+      lb : length b ≡ 16
+      lb = ap length eb ∙ length-tab 16 (keyedBy s at' l)
+
+      le : length e ≡ 32
+      le = ap length ee ∙ length-tab 32 f
+
+      fit : (x q : ℕ) → x < 32 → q < 16 → getD a x 0 + getD b q 0 < length e
+      fit x q hx hq =
+          let p = ap (λ (v : List ℕ). getD v x 0) ea ∙ getD-tab 32 (summands s at k m) x hx in
+          let r = ap (λ (v : List ℕ). getD v q 0) eb ∙ getD-tab 16 (keyedBy s at' l) q hq in
+          let u = xor-lt 4 (getD s (at + x % 16) 0) k (h (at + x % 16)) hk in
+          let v = xor-lt 4 (getD s (at' + q) 0) l (h (at' + q)) hl in
+          let w = xor-lt 1 (x / 16) m (omega arith) hm in
+          omega (arith, p, r, u, v, w, le)
+
+pub add-made : (s R K a b e : List ℕ) (p k l : ℕ) → a ≡ tab 32 (summands s (16 * p) k (getD R (384 + p) 0))
+    → b ≡ tab 16 (keyedBy s (16 * p + 128) l) → e ≡ tab 32 (sumEntries R p) → k ≡ halfByte (getD K (2 * (p / 8)) 0) (p % 8)
+    → l ≡ halfByte (getD K (2 * (p / 8) + 1) 0) (p % 8) → sumTable e a b ≡ madeAdd s R K p
+unfolding madeAdd
+add-made s R K a b e p k l ea eb ee ek el = rw (ea, eb, ee, ek, el)
+
+module _ (s S a b e : List ℕ) (n i at at' o : ℕ) (ea : a ≡ tab 16 (upperParts s at i)) (eb : b ≡ tab 16 (lowerParts s at' i)) (ee : e ≡ drop o S)
+    (h : Below 16 s) (far : o + 16 ≤ length S) (room : n ≡ 256) where
+  pub turn-fits : (16 ≤ length b) × (n ≡ length a * 16) × SumsFit e a b
+  turn-fits = (omega (arith, lb), omega (arith, la), λ x q hx hq. fit x q (omega (arith, la)) hq)
+    where
+      la : length a ≡ 16
+      la = ap length ea ∙ length-tab 16 (upperParts s at i)
+
+      lb : length b ≡ 16
+      lb = ap length eb ∙ length-tab 16 (lowerParts s at' i)
+
+      le : length e ≡ length S - o
+      le = ap length ee ∙ length-drop o S
+
+      fit : (x q : ℕ) → x < 16 → q < 16 → getD a x 0 + getD b q 0 < length e
+      fit x q hx hq =
+          let p = ap (λ (v : List ℕ). getD v x 0) ea ∙ getD-tab 16 (upperParts s at i) x hx in
+          let r = ap (λ (v : List ℕ). getD v q 0) eb ∙ getD-tab 16 (lowerParts s at' i) q hq in
+          let u = parts-lt i (getD s (at + x) 0) (getD s (at' + q) 0) (h (at' + q)) in
+          omega (arith, p, r, u, le)
+
+pub turn-made : (s S a b e : List ℕ) (p x y : ℕ) → a ≡ tab 16 (upperParts s x (p / 8)) → b ≡ tab 16 (lowerParts s y (p / 8)) → e ≡ drop (16 * p) S
+    → x ≡ 16 * (8 * (p / 8) + upper (p / 8) (p % 8)) → y ≡ 16 * (8 * (p / 8) + lower (p / 8) (p % 8)) → sumTable e a b ≡ madeTurn s S p
+unfolding madeTurn
+turn-made s S a b e p x y ea eb ee ex ey = rw (ea, eb, ee, ex, ey)
+
+module _ (s u S a b e : List ℕ) (n k at : ℕ) (ea : a ≡ tab 16 (keyedBy s at k)) (eb : b ≡ drop at u) (ee : e ≡ drop at S)
+    (h : Below 16 s) (hu : Below 16 u) (hk : k < 16) (near : at + 16 ≤ length u) (far : at + 16 ≤ length S) (room : n ≡ 256) where
+  pub fold-fits : (16 ≤ length b) × (n ≡ length a * 16) × XorsFit e a b
+  fold-fits = (omega (arith, lb), omega (arith, la), λ x q hx hq. fit x q (omega (arith, la)) hq)
+    where
+      la : length a ≡ 16
+      la = ap length ea ∙ length-tab 16 (keyedBy s at k)
+
+      lb : length b ≡ length u - at
+      lb = ap length eb ∙ length-drop at u
+
+      le : length e ≡ length S - at
+      le = ap length ee ∙ length-drop at S
+
+      fit : (x q : ℕ) → x < 16 → q < 16 → bitXor (getD a x 0) (getD b q 0) < length e
+      fit x q hx hq =
+          let p = ap (λ (v : List ℕ). getD v x 0) ea ∙ getD-tab 16 (keyedBy s at k) x hx in
+          let r = ap (λ (v : List ℕ). getD v q 0) eb ∙ getD-drop at u q 0 in
+          let v = xor-lt 4 (getD s (at + x) 0) k (h (at + x)) hk in
+          let w = hu (at + q) in
+          let z = xor-lt 4 (getD a x 0) (getD b q 0) (omega (arith, p, v)) (omega (arith, r, w)) in
+          omega (arith, z, le)
+
+pub fold-made : (s u S K a b e : List ℕ) (p k : ℕ) → a ≡ tab 16 (keyedBy s (16 * p) k) → b ≡ drop (16 * p) u → e ≡ drop (16 * p) S
+    → k ≡ blockHalf K (p / 8) (p % 8) → xorTable e a b ≡ madeFold s u S K p
+unfolding madeFold
+fold-made s u S K a b e p k ea eb ee ek = rw (ea, eb, ee, ek)

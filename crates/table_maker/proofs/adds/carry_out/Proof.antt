@@ -1,0 +1,20 @@
+-- `adds::carry_out` meets its contract.
+use mathlib.Core.Path.{_≡_, sym, _∙_}
+use Prim.Native.Nat.{_+_}
+use native.Mathlib.Omega.{arith}
+use borrow.Author.Needs.{needs}
+use lib.Bits.{xor-lt}
+use Rattle.cipher.proofs.TableLaws.{carry-held, carry-top}
+use Rattle.table_maker.proofs.adds.carry_out.Statement.{statement}
+use Rattle.table_maker.proofs.adds.carry_out.Tie as tie
+
+returns : tie.Need-returns
+returns c =
+    let s = c .before .before in
+    (sym (carry-held _ _ _ (omega arith)), xor-lt 1 _ _ (s .pre .1) (s .pre .2 .masks (385 + s .args .p) (omega arith) (omega arith)))
+
+returns-2 : tie.Need-returns-2
+returns-2 c = (sym (carry-top _ _ _ (omega arith)), omega arith)
+
+pub carry-out-spec : {M : Type 1} → statement M
+carry-out-spec = tie.close (tie.spec (λ c. search needs) (λ c. search needs) (λ c. search needs) (λ c. search needs) (λ c. search needs) returns returns-2)

@@ -1,0 +1,26 @@
+-- `turns::turn_table` meets its contract.
+use mathlib.Core.Path.{_∙_}
+use Prim.Native.Nat.{_*_, _/_}
+use native.Mathlib.Omega.{arith}
+use borrow.Author.Needs.{needs}
+use Rattle.lists.proofs.PartLaws.{part-end}
+use Rattle.table_maker.proofs.MadeLaws.{turn-fits, turn-made}
+use Rattle.table_maker.proofs.turns.turn_table.Statement.{statement}
+use Rattle.table_maker.proofs.turns.turn_table.Tie as tie
+
+sum-table-requires : tie.Need-sum-table-requires
+sum-table-requires c κs =
+    let e = c .before .before .before .before .before .before .before .before .before .before .before in
+    turn-fits (e .args .s .now) (e .args .after .now) _ _ _ _ (e .args .p / 8) (c .before .before .before .before .before .before .before .upper-at .result) (c .before .before .before .before .before .lower-at .result) (16 * e .args .p) (c .before .before .before .before .before .before .upper-parts .ensures) (c .before .before .before .before .lower-parts .ensures)
+    (part-end (e .args .after .now) (16 * e .args .p)) (e .pre .2) (omega arith) (e .pre .4)
+
+returns : tie.Need-returns
+returns c =
+    let d = c .before .before .before in
+    let e = d .before .before .before .before .before .before .before .before .before .before .before in
+    c .before .before .sum-table .ensures
+    ∙ turn-made _ _ _ _ _ _ _ _ (d .before .before .before .before .before .before .upper-parts .ensures) (d .before .before .before .before .lower-parts .ensures) (part-end (e .args .after .now) (16 * e .args .p))
+    (d .before .before .before .before .before .before .before .upper-at .ensures .0) (d .before .before .before .before .before .lower-at .ensures .0)
+
+pub turn-table-spec : {M : Type 1} → statement M
+turn-table-spec = tie.close (tie.spec (λ c κs. search needs) (λ c κs. search needs) (λ c κs. search needs) (λ c κs. search needs) (λ c. search needs) (λ c. search needs) (λ c. search needs) (λ c. search needs) (λ c. search needs) (λ c. search needs) sum-table-requires (λ c. search needs) returns)
