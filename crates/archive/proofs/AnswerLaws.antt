@@ -1,13 +1,12 @@
 -- The answers of the archive, case by case. For each operation the cases exclude each other and leave none out, so each
 -- refusal is given exactly under its condition.
-use mathlib.Core.Path.{_≡_, refl, sym, ap, ap₂, _∙_}
+use mathlib.Core.Path.{_≡_, sym, ap, _∙_}
 use mathlib.Core.Bool.{Bool, true, false, cond, not}
-use mathlib.Core.List.{List, [], _∷_, _++_}
-use Prim.Native.Nat.{ℕ, _+_, _-_, _*_, _/_, _≤_, _<_}
-use native.Mathlib.Omega.{arith}
+use mathlib.Core.List.{List, [], _++_}
+use Prim.Native.Nat.{ℕ, _+_, _-_, _≤_, _<_}
 use borrow.Author.Tests.{lt-ltb, le-ltb}
 use lib.Dec.{ltb}
-use lib.ListN.{length, take, drop}
+use lib.ListN.{length, drop}
 use Rattle.lists.specs.Refusals.{first}
 use Rattle.lists.proofs.RefusalLaws.{first-hit, first-pass}
 use Rattle.lists.specs.Blocks.{Bytes}
@@ -18,19 +17,19 @@ use Rattle.cipher.specs.Cmac.{cmac}
 use Rattle.cipher.specs.Coding.{Permutations, setOf, coded, decoded}
 use Rattle.cipher.specs.Chain.{LoneSet, setTests}
 use Rattle.cipher.specs.Lengths.{setLength}
-use Rattle.cipher.specs.Answers.{keyTests, keySize, blockTests, badText, textTests, roomTests, setChecked}
+use Rattle.cipher.specs.Answers.{blockTests, badText, textTests, roomTests, setChecked}
 use Rattle.cipher.specs.declared.size.KeySize.{KeySize}
 use Rattle.cipher.specs.declared.size.SizeFound.the-variants.{Found, Unknown}
 use Rattle.cipher.specs.declared.refusal.Outcome.{Outcome}
 use Rattle.cipher.specs.declared.refusal.Outcome.the-variants.{Done, Refused}
 use Rattle.cipher.specs.declared.refusal.Refusal.{Refusal}
-use Rattle.cipher.proofs.AnswerLaws.{length-taken, key-refused, key-taken, block-refused, block-taken, text-refused, text-taken, room-refused, room-taken, number-more}
+use Rattle.cipher.proofs.AnswerLaws.{length-taken, key-refused, key-taken, block-refused, block-taken, text-refused, text-taken, number-more}
 use Rattle.cipher.proofs.KeySizeLaws.{none-of}
 use Rattle.cipher.proofs.ChainRefusals.{set-length-refused, set-coding-refused, set-taken}
 use Rattle.cipher.proofs.CheckLaws.{told-refused, set-checked}
 use Rattle.archive.proofs.MacLaws.{block-cmac}
 use Rattle.archive.proofs.CheckLaws.{same-coded}
-use Rattle.archive.specs.Archive.{openedText, lastByte, endsPadded, paddingTests, unpadded, openTests, openAnswer, sameBlock, messageTests, checkTests, checkAnswer}
+use Rattle.archive.specs.Archive.{openedText, endsPadded, paddingTests, unpadded, openAnswer, sameBlock, messageTests, checkAnswer}
 
 -- a set that the check took
 pub set-done : (s : List ℕ) (r : Outcome) → outcomeOf r ≡ setChecked s → r ≡ Done → LoneSet s
@@ -168,6 +167,7 @@ module _ (key set iv sealed out : List ℕ) where
 
             pub open-done : endsPadded (openedText (decipher z key) (setOf set) iv sealed) ≡ true
                 → openAnswer key set iv sealed out
-                ≡ ((0, length (unpadded (openedText (decipher z key) (setOf set) iv sealed))), unpadded (openedText (decipher z key) (setOf set) iv sealed) ++ drop (length (unpadded (openedText (decipher z key) (setOf set) iv sealed))) out)
+                ≡ ((0, length (unpadded (openedText (decipher z key) (setOf set) iv sealed))), unpadded (openedText (decipher z key) (setOf set) iv sealed)
+                ++ drop (length (unpadded (openedText (decipher z key) (setOf set) iv sealed))) out)
             unfolding text opened first
             open-done h = open-roomy ∙ first-pass (not (endsPadded (text z))) 11 [] left (opened (text z)) (ap not h)

@@ -2,14 +2,13 @@
 use mathlib.Core.Path.{_≡_, refl, sym, ap, _∙_}
 use mathlib.Core.Bool.{Bool, true, false}
 use mathlib.Core.List.{List}
-use Prim.Native.Nat.{ℕ, _<_}
+use Prim.Native.Nat.{ℕ}
 use native.Mathlib.Omega.{arith}
 use borrow.Author.Tests.{eq-eqb, eqb-true}
 use lib.Dec.{eqb}
 use lib.ListN.{length, getD}
 use lib.Seq.{ext-getD}
 use Rattle.lists.specs.Blocks.{Block}
-use Rattle.lists.specs.Every.{every}
 use Rattle.lists.proofs.EveryLaws.{every-all, all-every}
 use Rattle.cipher.specs.Coding.{Set, Permutations, coded, decoded}
 use Rattle.cipher.proofs.CodingLaws.{block-coded, block-decoded, coded-decoded, decoded-coded}

@@ -2,11 +2,11 @@
 use mathlib.Core.Path.{_≡_, refl, sym, ap, ap₂, _∙_}
 use mathlib.Core.Bool.{Bool, true, false, cond}
 use mathlib.Core.List.{List, _∷_, _++_, append-nil}
-use Prim.Native.Nat.{ℕ, zero, suc, _+_, _-_, _*_, _/_, _≤_, _<_}
+use Prim.Native.Nat.{ℕ, zero, suc, _+_, _-_, _*_, _≤_, _<_}
 use native.Mathlib.Omega.{arith}
 use borrow.Author.Tests.{eq-eqb, ne-eqb}
 use lib.Dec.{eqb, lit<}
-use lib.ListN.{getD, length, set, drop, replicate, length-append, length-drop}
+use lib.ListN.{getD, length, set, drop, replicate, length-drop}
 use lib.Seq.{append-snoc}
 use Rattle.lists.specs.Tabulation.{tab}
 use Rattle.lists.specs.Blocks.{Bytes, Block, zeros, xorBlock, cut}

@@ -2,7 +2,7 @@
 use mathlib.Core.Path.{_≡_, sym, ap, ap₂, _∙_, subst}
 use mathlib.Core.Bool.{true, false, cond}
 use mathlib.Core.List.{List, _++_}
-use Prim.Native.Nat.{ℕ, suc, _+_, _-_, _*_, _/_, _%_, _≤_, _<_}
+use Prim.Native.Nat.{ℕ, _+_, _-_, _*_, _/_, _%_, _≤_}
 use native.Mathlib.Omega.{arith}
 use lib.ListN.{length, take, drop, length-append, length-drop}
 use lib.Seq.{length-take-le}
@@ -12,7 +12,7 @@ use Rattle.lists.proofs.ChunkLaws.{chunks-more}
 use Rattle.lists.proofs.PartLaws.{put-more}
 use Rattle.cipher.specs.KeySize.{rounds, sizeOfKey}
 use Rattle.cipher.specs.Lea.{keyRows}
-use Rattle.cipher.specs.Lea.{undoneRounds, decipher}
+use Rattle.cipher.specs.Lea.{decipher}
 use Rattle.cipher.specs.Coding.{Permutation, FirstPermutations, LowSet, codingAt, setOf, decoded, inverted}
 use Rattle.cipher.specs.Images.{imagesOf, imaged}
 use Rattle.cipher.specs.Chain.{LoneSet}
@@ -27,7 +27,7 @@ use Rattle.cipher.proofs.AnswerLaws.{text-known}
 use Rattle.archive.specs.Blocks.{WordRows, Table, openedBlock}
 use Rattle.archive.specs.Archive.{openedText, lastByte, endsPadded, unpadded, openAnswer}
 use Rattle.archive.proofs.OpenLaws.{opened-text, opened-alike, decoded-imaged, block-opened, chunks-length}
-use Rattle.archive.proofs.PaddingLaws.{ends-text, last-text, unpadded-text, padding-none, padding-some}
+use Rattle.archive.proofs.PaddingLaws.{ends-text, unpadded-text, padding-none, padding-some}
 use Rattle.archive.proofs.AnswerLaws.{open-11, open-done}
 
 -- what inverting a set asks for, and what the inverted set is

@@ -1,13 +1,13 @@
 -- Padding at the end of a text is padding at the end of its last block.
-use mathlib.Core.Path.{_≡_, refl, sym, ap, ap₂, _∙_}
+use mathlib.Core.Path.{_≡_, refl, sym, ap, _∙_}
 use mathlib.Core.Bool.{Bool, true, false, cond, _&&_}
 use mathlib.Core.List.{List, _++_}
 use Prim.Native.Nat.{ℕ, _+_, _-_, _≤_, _<_}
 use native.Mathlib.Omega.{arith}
 use borrow.Author.Tests.{le-leb, lt-leb, leb-true}
 use lib.Dec.{leb, eqb}
-use lib.ListN.{length, getD, take, drop, length-append}
-use lib.Seq.{getD-append-add, length-take-le, take-append-add}
+use lib.ListN.{length, getD, take, length-append}
+use lib.Seq.{getD-append-add, take-append-add}
 use Rattle.lists.specs.Every.{every}
 use Rattle.lists.proofs.EveryLaws.{and-true, every-ext}
 use Rattle.archive.specs.Archive.{lastByte, endsPadded, unpadded}
@@ -57,12 +57,17 @@ module _ (a b : List ℕ) (l : length b ≡ 16) where
           ≡ leb 1 (lastByte b) && t && every (lastByte b) (λ k. eqb (getD b (length b - lastByte b + k) 0) (lastByte b))
       go true e =
           let h = leb-true (lastByte b) 16 e in
-          ap (λ (q : Bool). leb 1 (lastByte b) && true && q) (every-ext (lastByte b) (λ k. eqb (getD (a ++ b) (length (a ++ b) - lastByte b + k) 0) (lastByte b)) (λ k. eqb (getD b (length b - lastByte b + k) 0) (lastByte b)) (λ k i.
+          ap (λ (q : Bool). leb 1 (lastByte b) && true && q)
+          (every-ext (lastByte b)
+          (λ k. eqb (getD (a ++ b) (length (a ++ b) - lastByte b + k) 0) (lastByte b))
+          (λ k. eqb (getD b (length b - lastByte b + k) 0) (lastByte b))
+          (λ k i.
           let w : length (a ++ b) - lastByte b + k ≡ length a + (length b - lastByte b + k) = omega (arith, whole) in
           ap (λ (n : ℕ). eqb n (lastByte b)) (ap (λ (n : ℕ). getD (a ++ b) n 0) w ∙ getD-append-add a b (length b - lastByte b + k) 0)))
       go false e = go-false (leb 1 (lastByte b))
         where
-          go-false : (s : Bool) → s && false && every (lastByte b) (λ k. eqb (getD (a ++ b) (length (a ++ b) - lastByte b + k) 0) (lastByte b)) ≡ s && false && every (lastByte b) (λ k. eqb (getD b (length b - lastByte b + k) 0) (lastByte b))
+          go-false : (s : Bool) → s && false && every (lastByte b) (λ k. eqb (getD (a ++ b) (length (a ++ b) - lastByte b + k) 0) (lastByte b))
+              ≡ s && false && every (lastByte b) (λ k. eqb (getD b (length b - lastByte b + k) 0) (lastByte b))
           go-false true = refl
           go-false false = refl
 

@@ -16,7 +16,6 @@ use Rattle.cipher.specs.Coding.{Set, setOf, decoded}
 use Rattle.cipher.specs.Chain.{setTests}
 use Rattle.cipher.specs.Refusal.{numberOf}
 use Rattle.cipher.specs.Answers.{keyTests, keySize, blockTests, textTests, roomTests}
-use Rattle.cipher.specs.declared.size.KeySize.{KeySize}
 use Rattle.archive.specs.declared.check.Checked.{Checked}
 use Rattle.archive.specs.declared.check.Checked.the-variants.{Valid, Invalid, Refused}
 

@@ -1,5 +1,5 @@
 -- What the benchmark's call answers: the CBC-MAC of the whole blocks of a text.
-use mathlib.Core.List.{List, []}
+use mathlib.Core.List.{List}
 use Prim.Native.Nat.{ℕ}
 use Rattle.lists.specs.Blocks.{zeros, blocks}
 use Rattle.lists.specs.Refusals.{first}

@@ -1,6 +1,6 @@
 -- The answers of the operations on a key and a block, case by case. The cases exclude each other and leave none out, so
 -- each refusal is given exactly under its condition.
-use mathlib.Core.Path.{_≡_, refl, ap, _∙_}
+use mathlib.Core.Path.{_≡_, refl, sym, ap, _∙_}
 use mathlib.Core.Bool.{Bool, true, false, cond, not, _||_}
 use mathlib.Core.List.{List, [], _∷_, _++_}
 use Prim.Native.Nat.{ℕ, _%_, _≤_, _<_}
@@ -12,6 +12,8 @@ use Rattle.lists.specs.Blocks.{zeros}
 use Rattle.lists.specs.Refusals.{first}
 use Rattle.lists.proofs.RefusalLaws.{first-hit, first-pass}
 use Rattle.cipher.specs.KeySize.{keyLength, sizeOfKey}
+use Rattle.cipher.specs.Schedule.{words4}
+use Rattle.cipher.specs.Lea.{bytes, keyRows}
 use Rattle.cipher.specs.Answers.{keyLengthTests, keyTests, blockTests, badText, textTests, roomTests, keyLengthSize, keySize, onBlock}
 use Rattle.cipher.specs.Refusal.{numberOf}
 use Rattle.cipher.specs.declared.refusal.Refusal.{Refusal}
@@ -75,6 +77,16 @@ module _ (key b : List ℕ) (f : KeySize → List ℕ) where
     on-done h =
         key-taken key (blockTests b) (λ n. (n, zeros)) (λ z. (0, f z)) z e
         ∙ first-pass (not (eqb (length b) 16)) 7 [] (λ n. (n, zeros)) (0, f z) (ap not (eq-eqb (length b) 16 h))
+
+-- the same where `go` made the block of x from w by n of the key's rows, n being what `count` says for the size
+module _ (go : List (List ℕ) → ℕ → List ℕ → List ℕ) (count : KeySize → ℕ) (key b : List ℕ) (z : KeySize) where
+  pub on-rows : sizeOfKey (length key) ≡ Found z → length b ≡ 16 → (a : ℕ × List ℕ) (x w : List ℕ) (rows : List (List ℕ)) (n : ℕ)
+      → a ≡ (0, bytes x) → x ≡ go rows n w → rows ≡ keyRows z key → w ≡ words4 b → n ≡ count z
+      → a ≡ onBlock key b (λ y. bytes (go (keyRows y key) (count y) (words4 b)))
+  on-rows e h a x w rows n ea ex er ew en =
+      ea
+      ∙ ap (λ (v : List ℕ). (0, bytes v)) (ex ∙ (λ i. go (er i) (en i) (ew i)))
+      ∙ sym (on-done key b (λ y. bytes (go (keyRows y key) (count y) (words4 b))) z e h)
 
 -- the test on a block, and then those of `ts`
 module _ {A : Type 0} (b : List ℕ) (ts : List (Bool × ℕ)) (refuse : ℕ → A) (go : A) where

@@ -32,7 +32,7 @@ use Rattle.driver.specs.declared.session.Session.{Session}
 use Rattle.driver.specs.declared.session.SessionAnswer.{SessionAnswer}
 use Rattle.driver.specs.declared.session.TagAnswer.{TagAnswer}
 use Rattle.archive.specs.Archive.{checkAnswer}
-use Rattle.claims.specs.Model.{Call, Answer, accepted, tag}
+use Rattle.claims.specs.Model.{Answer, accepted, tag}
 use Rattle.claims.specs.Calls.{answerOf, lastReply, driverCall, run, driverAnswers, callsOf, messageCalls, tagsOf}
 use Rattle.claims.specs.Built.{Built, bookIn, padSet, archiveSet}
 use Rattle.claims.proofs.BuiltLaws.{built-chain}

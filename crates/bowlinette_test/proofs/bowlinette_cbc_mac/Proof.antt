@@ -1,9 +1,9 @@
 -- `bowlinette_cbc_mac` meets its contract.
-use mathlib.Core.Path.{_≡_, sym, ap, _∙_}
+use mathlib.Core.Path.{sym, ap, _∙_}
 use mathlib.Core.List.{List, []}
 use Prim.Native.Nat.{ℕ}
 use borrow.Author.Needs.{needs}
-use Rattle.lists.specs.Blocks.{zeros, blocks, cut}
+use Rattle.lists.specs.Blocks.{zeros, blocks}
 use Rattle.lists.specs.Refusals.{first}
 use Rattle.lists.proofs.BlockLaws.{block-zeros}
 use Rattle.cipher.specs.KeySize.{keyLength, rounds}
@@ -47,4 +47,6 @@ returns-2 c =
     (λ i. (0, value i)) ∙ sym (ap (λ (t : ℕ × List ℕ). into t (a .out .now)) e)
 
 pub bowlinette-cbc-mac-spec : {M : Type 1} → statement M
-bowlinette-cbc-mac-spec = tie.close (tie.spec (λ c κs. search needs) (λ c. search needs) (λ c. search needs) (λ c κs. search needs) returns key-rows-requires (λ c κs. search needs) (λ c κs. search needs) returns-2)
+bowlinette-cbc-mac-spec = tie.close (tie.spec
+    (λ c κs. search needs) (λ c. search needs) (λ c. search needs) (λ c κs. search needs) returns key-rows-requires
+    (λ c κs. search needs) (λ c κs. search needs) returns-2)

@@ -12,7 +12,9 @@ use Rattle.archive.proofs.blocks.decipher_four.Statement.{statement}
 use Rattle.archive.proofs.blocks.decipher_four.Tie as tie
 
 abbrev Inv-loop : tie.InvT-loop
-Inv-loop rows a₀ b₀ c₀ d₀ q₀ a b c d q = (q ≤ q₀) × (q₀ ≤ 8) × (backward rows (4 * q) a ≡ backward rows (4 * q₀) a₀) × (backward rows (4 * q) b ≡ backward rows (4 * q₀) b₀) × (backward rows (4 * q) c ≡ backward rows (4 * q₀) c₀) × (backward rows (4 * q) d ≡ backward rows (4 * q₀) d₀)
+Inv-loop rows a₀ b₀ c₀ d₀ q₀ a b c d q = (q ≤ q₀) × (q₀ ≤ 8) × (backward rows (4 * q) a ≡ backward rows (4 * q₀) a₀)
+    × (backward rows (4 * q) b ≡ backward rows (4 * q₀) b₀) × (backward rows (4 * q) c ≡ backward rows (4 * q₀) c₀)
+    × (backward rows (4 * q) d ≡ backward rows (4 * q₀) d₀)
 
 abbrev μ-loop : tie.MeasureT-loop
 μ-loop rows a₀ b₀ c₀ d₀ q₀ a b c d q = q
@@ -49,4 +51,9 @@ returns c =
     (whole (h .loop .a) (x .a) (h .loop .inv .2), whole (h .loop .b) (x .b) (h .loop .inv .3), whole (h .loop .c) (x .c) (h .loop .inv .4), whole (h .loop .d) (x .d) (h .loop .inv .5))
 
 pub decipher-four-spec : {M : Type 1} → statement M
-decipher-four-spec = tie.close (tie.spec Inv-loop μ-loop (λ c κs. search needs) loop-holds (λ c. search needs) (λ c. search needs) (λ c. search needs) (λ c. search needs) (λ c. search needs) (λ c. search needs) (λ c. search needs) (λ c. search needs) (λ c. search needs) (λ c. search needs) (λ c. search needs) (λ c. search needs) (λ c. search needs) (λ c. search needs) (λ c. search needs) (λ c. search needs) (λ c κs. search needs) (λ c κs. search needs) (λ c κs. search needs) (λ c κs. search needs) (λ c. search needs) loop-again returns)
+decipher-four-spec = tie.close (tie.spec
+    Inv-loop μ-loop (λ c κs. search needs) loop-holds (λ c. search needs) (λ c. search needs) (λ c. search needs)
+    (λ c. search needs) (λ c. search needs) (λ c. search needs) (λ c. search needs) (λ c. search needs) (λ c. search needs)
+    (λ c. search needs) (λ c. search needs) (λ c. search needs) (λ c. search needs) (λ c. search needs) (λ c. search needs)
+    (λ c. search needs) (λ c κs. search needs) (λ c κs. search needs) (λ c κs. search needs) (λ c κs. search needs)
+    (λ c. search needs) loop-again returns)

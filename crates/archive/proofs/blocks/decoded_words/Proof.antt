@@ -17,4 +17,6 @@ returns c =
     ∙ ap words4 (l .look-up .ensures ∙ ap (λ (n : ℕ). imaged (a .table .now) (take n (drop (a .at) (a .text .now)))) (add-sub-cancel-left (a .at) 16))
 
 pub decoded-words-spec : {M : Type 1} → statement M
-decoded-words-spec = tie.close (tie.spec (λ c. search needs) (λ c. search needs) (λ c. search needs) (λ c. search needs) (λ c. search needs) (λ c κs. search needs) (λ c. search needs) (λ c κs. search needs) returns)
+decoded-words-spec = tie.close (tie.spec
+    (λ c. search needs) (λ c. search needs) (λ c. search needs) (λ c. search needs) (λ c. search needs)
+    (λ c κs. search needs) (λ c. search needs) (λ c κs. search needs) returns)

@@ -13,7 +13,8 @@ returns c =
     let w = c .before .before .before in
     let s = w .before .before .before .before .before in
     let a = s .args in
-    opened-words (a .rows) (s .pre .0) _ (imaged (a .table .now)) (λ b. block-imaged (a .table .now) b (s .pre .1 .1)) (a .iv .now) (a .sealed .now) (a .k) _ _ _ _ (w .before .before-words .ensures) (w .decoded-words .ensures) (c .before .before .decipher .ensures) (c .bytes .ensures ∙ ap bytes (c .before .xor .ensures))
+    opened-words (a .rows) (s .pre .0) _ (imaged (a .table .now)) (λ b. block-imaged (a .table .now) b (s .pre .1 .1)) (a .iv .now) (a .sealed .now) (a .k) _ _
+    _ _ (w .before .before-words .ensures) (w .decoded-words .ensures) (c .before .before .decipher .ensures) (c .bytes .ensures ∙ ap bytes (c .before .xor .ensures))
 
 pub open-block-spec : {M : Type 1} → statement M
 open-block-spec = tie.close (tie.spec (λ c κs. search needs) (λ c. search needs) (λ c κs. search needs) (λ c κs. search needs) (λ c κs. search needs) (λ c κs. search needs) returns)

@@ -17,13 +17,15 @@ use Rattle.archive.proofs.blocks.open_blocks.Statement.{statement}
 use Rattle.archive.proofs.blocks.open_blocks.Tie as tie
 
 abbrev Inv-loop : tie.InvT-loop
-Inv-loop size table iv sealed n out₀ rows fours j₀ out j = (j ≤ fours) × (out ≡ chunks (4 * j) (openedBlock rows (rounds size) (imaged table) iv sealed) ++ drop (16 * (4 * j)) out₀) × (length out ≡ length out₀)
+Inv-loop size table iv sealed n out₀ rows fours j₀ out j =
+    (j ≤ fours) × (out ≡ chunks (4 * j) (openedBlock rows (rounds size) (imaged table) iv sealed) ++ drop (16 * (4 * j)) out₀) × (length out ≡ length out₀)
 
 abbrev μ-loop : tie.MeasureT-loop
 μ-loop size table iv sealed n out₀ rows fours j₀ out j = fours - j
 
 abbrev Inv-loop2 : tie.InvT-loop2
-Inv-loop2 size table iv sealed n out₀ rows fours k₀ out k = (k ≤ n) × (out ≡ chunks k (openedBlock rows (rounds size) (imaged table) iv sealed) ++ drop (16 * k) out₀) × (length out ≡ length out₀)
+Inv-loop2 size table iv sealed n out₀ rows fours k₀ out k =
+    (k ≤ n) × (out ≡ chunks k (openedBlock rows (rounds size) (imaged table) iv sealed) ++ drop (16 * k) out₀) × (length out ≡ length out₀)
 
 abbrev μ-loop2 : tie.MeasureT-loop2
 μ-loop2 size table iv sealed n out₀ rows fours k₀ out k = n - k
@@ -58,25 +60,43 @@ mul-put-xored-2 : tie.Need-mul-put-xored-2 Inv-loop μ-loop Inv-loop2 μ-loop2
 mul-put-xored-2 c = omega (arith, room (c .before .before .before .before .before .before .before .before .before .before .before .before .before .before .before .before) .0)
 
 put-xored-requires-2 : tie.Need-put-xored-requires-2 Inv-loop μ-loop Inv-loop2 μ-loop2
-put-xored-requires-2 c κs = omega (arith, room (c .before .before .before .before .before .before .before .before .before .before .before .before .before .before .before .before) .1, c .before .before .before .put-xored .kept .0)
+put-xored-requires-2 c κs =
+    let p1 = c .before .before .before in
+    omega (arith, room (p1 .before .before .before .before .before .before .before .before .before .before .before .before .before) .1, p1 .put-xored .kept .0)
 
 mul-put-xored-3 : tie.Need-mul-put-xored-3 Inv-loop μ-loop Inv-loop2 μ-loop2
-mul-put-xored-3 c = omega (arith, room (c .before .before .before .before .before .before .before .before .before .before .before .before .before .before .before .before .before .before .before .before) .0)
+mul-put-xored-3 c =
+    let p1 = c .before .before .before .before .before .before .before in
+    omega (arith, room (p1 .before .before .before .before .before .before .before .before .before .before .before .before .before) .0)
 
 put-xored-requires-3 : tie.Need-put-xored-requires-3 Inv-loop μ-loop Inv-loop2 μ-loop2
-put-xored-requires-3 c κs = omega (arith, room (c .before .before .before .before .before .before .before .before .before .before .before .before .before .before .before .before .before .before .before .before) .1, c .before .before .before .put-xored2 .kept .0, c .before .before .before .before .before .before .before .put-xored .kept .0)
+put-xored-requires-3 c κs =
+    let p2 = c .before .before .before in
+    let p1 = p2 .before .before .before .before in
+    omega (arith, room (p1 .before .before .before .before .before .before .before .before .before .before .before .before .before) .1, p2 .put-xored2 .kept .0, p1 .put-xored .kept .0)
 
 mul-put-xored-4 : tie.Need-mul-put-xored-4 Inv-loop μ-loop Inv-loop2 μ-loop2
-mul-put-xored-4 c = omega (arith, room (c .before .before .before .before .before .before .before .before .before .before .before .before .before .before .before .before .before .before .before .before .before .before .before .before) .0)
+mul-put-xored-4 c =
+    let p1 = c .before .before .before .before .before .before .before .before .before .before .before in
+    omega (arith, room (p1 .before .before .before .before .before .before .before .before .before .before .before .before .before) .0)
 
 put-xored-requires-4 : tie.Need-put-xored-requires-4 Inv-loop μ-loop Inv-loop2 μ-loop2
-put-xored-requires-4 c κs = omega (arith, room (c .before .before .before .before .before .before .before .before .before .before .before .before .before .before .before .before .before .before .before .before .before .before .before .before) .1, c .before .before .before .put-xored3 .kept .0, c .before .before .before .before .before .before .before .put-xored2 .kept .0, c .before .before .before .before .before .before .before .before .before .before .before .put-xored .kept .0)
+put-xored-requires-4 c κs =
+    let p3 = c .before .before .before in
+    let p2 = p3 .before .before .before .before in
+    let p1 = p2 .before .before .before .before in
+    omega (arith, room (p1 .before .before .before .before .before .before .before .before .before .before .before .before .before) .1, p3 .put-xored3 .kept .0,
+    p2 .put-xored2 .kept .0, p1 .put-xored .kept .0)
 
 add-j : tie.Need-add-j Inv-loop μ-loop Inv-loop2 μ-loop2
-add-j c = omega (arith, room (c .before .before .before .before .before .before .before .before .before .before .before .before .before .before .before .before .before .before .before .before .before .before .before .before .before .before .before) .0)
+add-j c =
+    let p1 = c .before .before .before .before .before .before .before .before .before .before .before .before .before .before in
+    omega (arith, room (p1 .before .before .before .before .before .before .before .before .before .before .before .before .before) .0)
 
 loop-less : tie.Need-loop-less Inv-loop μ-loop Inv-loop2 μ-loop2
-loop-less c = omega (arith, c .before .before .before .before .before .before .before .before .before .before .before .before .before .before .before .before .before .before .before .before .before .before .before .before .before .before .before .loop-test .taken)
+loop-less c =
+    let p1 = c .before .before .before .before .before .before .before .before .before .before .before .before .before .before in
+    omega (arith, p1 .before .before .before .before .before .before .before .before .before .before .before .before .before .loop-test .taken)
 
 loop-again : tie.Need-loop-again Inv-loop μ-loop Inv-loop2 μ-loop2
 loop-again c =
@@ -96,7 +116,8 @@ loop-again c =
     let f = imaged (a .table .now) in
     let block = opened-words (a .t1) (s .pre .0) (rounds (a .size)) f (block-is s) (a .iv .now) (a .sealed .now) in
     let turn = open-turn (opened s) (sized s) (a .out .now) in
-    let next : (n : ℕ) → words4 (f (blockOf (a .sealed .now) n)) ≡ words4 (f (blockBefore (a .iv .now) (a .sealed .now) (n + 1))) = λ n. ap (λ (b : List ℕ). words4 (f b)) (before-more (a .iv .now) (a .sealed .now) n) in
+    let next : (n : ℕ) → words4 (f (blockOf (a .sealed .now) n)) ≡ words4 (f (blockBefore (a .iv .now) (a .sealed .now) (n + 1))) =
+    λ n. ap (λ (b : List ℕ). words4 (f b)) (before-more (a .iv .now) (a .sealed .now) n) in
     let b1 = block k _ _ _ _ (t1 .before .before-words .ensures) (t1 .decoded-words .ensures) (y .decipher-four .ensures .0) refl in
     let b2 = block (k + 1) _ _ _ _ (t1 .decoded-words .ensures ∙ next k) (t2 .decoded-words2 .ensures) (y .decipher-four .ensures .1) refl in
     let b3 = block (k + 1 + 1) _ _ _ _ (t2 .decoded-words2 .ensures ∙ next (k + 1)) (t3 .decoded-words3 .ensures) (y .decipher-four .ensures .2) refl in
@@ -150,4 +171,11 @@ returns c =
     (after (opened s) (sized s) (a .out .now) (4 * l .loop .j) (a .n) (l .loop .out) (omega arith) (l .loop .inv .1))
 
 pub open-blocks-spec : {M : Type 1} → statement M
-open-blocks-spec = tie.close (tie.spec Inv-loop μ-loop Inv-loop2 μ-loop2 loop-holds (λ c. search needs) (λ c. search needs) (λ c. search needs) (λ c. search needs) (λ c κs. search needs) (λ c. search needs) (λ c κs. search needs) (λ c. search needs) (λ c κs. search needs) (λ c. search needs) (λ c κs. search needs) (λ c. search needs) (λ c κs. search needs) (λ c κs. search needs) mul-put-xored put-xored-requires mul-put-xored-2 put-xored-requires-2 mul-put-xored-3 put-xored-requires-3 mul-put-xored-4 put-xored-requires-4 add-j loop-less loop-again (λ c. search needs) loop2-holds (λ c. search needs) (λ c κs. search needs) (λ c κs. search needs) (λ c. search needs) (λ c. search needs) loop2-again same-length returns)
+open-blocks-spec = tie.close (tie.spec
+    Inv-loop μ-loop Inv-loop2 μ-loop2 loop-holds (λ c. search needs) (λ c. search needs) (λ c. search needs)
+    (λ c. search needs) (λ c κs. search needs) (λ c. search needs) (λ c κs. search needs) (λ c. search needs)
+    (λ c κs. search needs) (λ c. search needs) (λ c κs. search needs) (λ c. search needs) (λ c κs. search needs)
+    (λ c κs. search needs) mul-put-xored put-xored-requires mul-put-xored-2 put-xored-requires-2 mul-put-xored-3
+    put-xored-requires-3 mul-put-xored-4 put-xored-requires-4 add-j loop-less loop-again (λ c. search needs) loop2-holds
+    (λ c. search needs) (λ c κs. search needs) (λ c κs. search needs) (λ c. search needs) (λ c. search needs) loop2-again
+    same-length returns)

@@ -28,7 +28,8 @@ returns-4 : tie.Need-returns-4
 returns-4 c =
     let d = c .before .before in
     let s = d .before .before .before .before in
-    sym (check-8 _ _ _ _ _ (sym (s .before .before .of-key-len .ensures) ∙ s .size .given .1) (set-done _ _ (d .before .before .check-set .ensures) (d .enum-told2 .given .1)) (c .before .if1 .left) (c .if2 .taken))
+    let set = set-done _ _ (d .before .before .check-set .ensures) (d .enum-told2 .given .1) in
+    sym (check-8 _ _ _ _ _ (sym (s .before .before .of-key-len .ensures) ∙ s .size .given .1) set (c .before .if1 .left) (c .if2 .taken))
 
 key-rows-requires : tie.Need-key-rows-requires
 key-rows-requires c κs =
@@ -48,7 +49,11 @@ returns-5 c =
     let d = f .before .before in
     let s = d .before .before .before .before in
     let p = s .before .before .before in
-    sym (check-verdict _ _ _ _ _ (sym (s .before .before .of-key-len .ensures) ∙ s .size .given .1) (set-done _ _ (d .before .before .check-set .ensures) (d .enum-told2 .given .1)) (f .before .if1 .left) (f .if2 .left) _ _ _ _ (c .before .before .before .before .key-rows .ensures) (c .before .before .before .cmac .ensures) (c .before .before .code-block .ensures) (bytes-of (p .before .before .before .before .args .tag .now) (λ j h. omega (arith, p .shared-slice-known4 .given j))) (sym (c .before .same .ensures) ∙ c .if3 .taken))
+    let found = sym (s .before .before .of-key-len .ensures) ∙ s .size .given .1 in
+    let set = set-done _ _ (d .before .before .check-set .ensures) (d .enum-told2 .given .1) in
+    let tag = bytes-of (p .before .before .before .before .args .tag .now) (λ j h. omega (arith, p .shared-slice-known4 .given j)) in
+    sym (check-verdict _ _ _ _ _ found set (f .before .if1 .left) (f .if2 .left) _ _ _ _ (c .before .before .before .before .key-rows .ensures)
+    (c .before .before .before .cmac .ensures) (c .before .before .code-block .ensures) tag (sym (c .before .same .ensures) ∙ c .if3 .taken))
 
 returns-6 : tie.Need-returns-6
 returns-6 c =
@@ -56,7 +61,14 @@ returns-6 c =
     let d = f .before .before in
     let s = d .before .before .before .before in
     let p = s .before .before .before in
-    sym (check-verdict _ _ _ _ _ (sym (s .before .before .of-key-len .ensures) ∙ s .size .given .1) (set-done _ _ (d .before .before .check-set .ensures) (d .enum-told2 .given .1)) (f .before .if1 .left) (f .if2 .left) _ _ _ _ (c .before .before .before .before .key-rows .ensures) (c .before .before .before .cmac .ensures) (c .before .before .code-block .ensures) (bytes-of (p .before .before .before .before .args .tag .now) (λ j h. omega (arith, p .shared-slice-known4 .given j))) (sym (c .before .same .ensures) ∙ c .if3 .left))
+    let found = sym (s .before .before .of-key-len .ensures) ∙ s .size .given .1 in
+    let set = set-done _ _ (d .before .before .check-set .ensures) (d .enum-told2 .given .1) in
+    let tag = bytes-of (p .before .before .before .before .args .tag .now) (λ j h. omega (arith, p .shared-slice-known4 .given j)) in
+    sym (check-verdict _ _ _ _ _ found set (f .before .if1 .left) (f .if2 .left) _ _ _ _ (c .before .before .before .before .key-rows .ensures)
+    (c .before .before .before .cmac .ensures) (c .before .before .code-block .ensures) tag (sym (c .before .same .ensures) ∙ c .if3 .left))
 
 pub check-spec : {M : Type 1} → statement M
-check-spec = tie.close (tie.spec (λ c κs. search needs) (λ c. search needs) (λ c. search needs) returns (λ c κs. search needs) (λ c. search needs) returns-2 (λ c. search needs) returns-3 returns-4 key-rows-requires (λ c κs. search needs) code-block-requires (λ c κs. search needs) returns-5 returns-6)
+check-spec = tie.close (tie.spec
+    (λ c κs. search needs) (λ c. search needs) (λ c. search needs) returns (λ c κs. search needs) (λ c. search needs)
+    returns-2 (λ c. search needs) returns-3 returns-4 key-rows-requires (λ c κs. search needs) code-block-requires
+    (λ c κs. search needs) returns-5 returns-6)

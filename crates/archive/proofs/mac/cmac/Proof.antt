@@ -3,13 +3,10 @@ use mathlib.Core.Path.{ap, _∙_}
 use Prim.Native.Nat.{_*_}
 use native.Mathlib.Omega.{arith}
 use borrow.Author.Needs.{needs}
-use lib.ListN.{length}
 use Rattle.lists.proofs.BlockLaws.{bytes-of}
 use Rattle.lists.proofs.PartLaws.{part-end}
 use Rattle.cipher.specs.Lea.{bytes, forward}
 use Rattle.cipher.specs.KeySize.{rounds}
-use Rattle.cipher.specs.Cmac.{subkey1, subkey2}
-use Rattle.cipher.proofs.CmacLaws.{block-double}
 use Rattle.archive.proofs.MacLaws.{before-most, left-most, cmac-is, block-subkeys}
 use Rattle.archive.proofs.mac.cmac.Statement.{statement}
 use Rattle.archive.proofs.mac.cmac.Tie as tie
@@ -39,7 +36,13 @@ returns c =
     let b = l .before .before .before .before in
     let s = b .before .before in
     let m = s .args .message .now in
-    cmac-is (s .args .rows) (rounds (s .args .size)) m _ _ _ _ _ _ _ _ (b .blocks-before .ensures) (l .before .subkeys .ensures .0) (l .before .subkeys .ensures .1) (part-end m _) (bytes-of m (λ j h. omega (arith, b .before .shared-slice-known .given j))) (l .before .before .before .cbc-mac .ensures) (l .last-words .ensures) (c .before .encipher .ensures ∙ ap (forward (s .args .rows) (rounds (s .args .size))) (c .before .before .xor .ensures)) (c .bytes .ensures)
+    let keys = l .before .subkeys .ensures in
+    let message = bytes-of m (λ j h. omega (arith, b .before .shared-slice-known .given j)) in
+    let mac = c .before .encipher .ensures ∙ ap (forward (s .args .rows) (rounds (s .args .size))) (c .before .before .xor .ensures) in
+    cmac-is (s .args .rows) (rounds (s .args .size)) m _ _ _ _ _ _ _ _ (b .blocks-before .ensures) (keys .0) (keys .1) (part-end m _) message
+    (l .before .before .before .cbc-mac .ensures) (l .last-words .ensures) mac (c .bytes .ensures)
 
 pub cmac-spec : {M : Type 1} → statement M
-cmac-spec = tie.close (tie.spec (λ c κs. search needs) mul-at cbc-mac-requires sub-last-words part-last-words-start (λ c. search needs) (λ c κs. search needs) last-words-requires (λ c κs. search needs) (λ c κs. search needs) (λ c κs. search needs) returns)
+cmac-spec = tie.close (tie.spec
+    (λ c κs. search needs) mul-at cbc-mac-requires sub-last-words part-last-words-start (λ c. search needs)
+    (λ c κs. search needs) last-words-requires (λ c κs. search needs) (λ c κs. search needs) (λ c κs. search needs) returns)

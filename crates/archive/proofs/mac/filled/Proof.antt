@@ -4,7 +4,7 @@ use mathlib.Core.List.{_++_}
 use Prim.Native.Nat.{_-_, _≤_}
 use native.Mathlib.Omega.{arith}
 use borrow.Author.Needs.{needs}
-use lib.ListN.{getD, length, replicate}
+use lib.ListN.{getD, replicate}
 use Rattle.lists.specs.Tabulation.{tab}
 use Rattle.lists.proofs.PartLaws.{fill-turn}
 use Rattle.archive.proofs.MacLaws.{filled-part, filled-whole}

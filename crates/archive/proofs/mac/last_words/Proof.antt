@@ -13,14 +13,21 @@ returns c =
     let f = c .before .before .before .before .before .before .before in
     let s = f .before .before in
     let k = s .args .keys in
-    last-whole (k .k1) (k .k2) (s .args .part .now) _ _ (f .filled .ensures) (bytes-of (s .args .part .now) (λ j b. omega (arith, f .before .shared-slice-known .given j))) (s .pre .1 .bytes) (c .before .before .before .before .before .before .if1 .taken) (c .xor .ensures ∙ ap₂ xorWords (c .before .before .before .words .ensures) (c .before .words2 .ensures))
+    let part = bytes-of (s .args .part .now) (λ j b. omega (arith, f .before .shared-slice-known .given j)) in
+    let under = c .xor .ensures ∙ ap₂ xorWords (c .before .before .before .words .ensures) (c .before .words2 .ensures) in
+    last-whole (k .k1) (k .k2) (s .args .part .now) _ _ (f .filled .ensures) part (s .pre .1 .bytes) (c .before .before .before .before .before .before .if1 .taken) under
 
 returns-2 : tie.Need-returns-2
 returns-2 c =
     let f = c .before .before .before .before .before .before .before in
     let s = f .before .before in
     let k = s .args .keys in
-    last-part (k .k1) (k .k2) (s .args .part .now) _ _ (f .filled .ensures) (bytes-of (s .args .part .now) (λ j b. omega (arith, f .before .shared-slice-known .given j))) (s .pre .2 .bytes) (c .before .before .before .before .before .before .if1 .left) (c .xor2 .ensures ∙ ap₂ xorWords (c .before .before .before .words3 .ensures) (c .before .words4 .ensures))
+    let part = bytes-of (s .args .part .now) (λ j b. omega (arith, f .before .shared-slice-known .given j)) in
+    let under = c .xor2 .ensures ∙ ap₂ xorWords (c .before .before .before .words3 .ensures) (c .before .words4 .ensures) in
+    last-part (k .k1) (k .k2) (s .args .part .now) _ _ (f .filled .ensures) part (s .pre .2 .bytes) (c .before .before .before .before .before .before .if1 .left) under
 
 pub last-words-spec : {M : Type 1} → statement M
-last-words-spec = tie.close (tie.spec (λ c κs. search needs) (λ c. search needs) (λ c κs. search needs) (λ c. search needs) (λ c κs. search needs) (λ c κs. search needs) returns (λ c. search needs) (λ c κs. search needs) (λ c. search needs) (λ c κs. search needs) (λ c κs. search needs) returns-2)
+last-words-spec = tie.close (tie.spec
+    (λ c κs. search needs) (λ c. search needs) (λ c κs. search needs) (λ c. search needs) (λ c κs. search needs)
+    (λ c κs. search needs) returns (λ c. search needs) (λ c κs. search needs) (λ c. search needs) (λ c κs. search needs)
+    (λ c κs. search needs) returns-2)

@@ -1,11 +1,12 @@
 -- `open::open` meets its contract.
 use mathlib.Core.Path.{_≡_, sym, _∙_}
-use Prim.Native.Nat.{_%_, _≤_, _<_}
+use Prim.Native.Nat.{ℕ, _%_, _≤_, _<_}
 use native.Mathlib.Omega.{arith}
 use borrow.Author.Needs.{needs}
 use lib.ListN.{length}
-use Rattle.lists.specs.Blocks.{Bytes}
+use Rattle.lists.specs.Blocks.{Bytes, blockLength}
 use Rattle.lists.proofs.BlockLaws.{bytes-of}
+use Rattle.cipher.specs.Lengths.{longestCode}
 use Rattle.cipher.specs.KeySize.{keyLength}
 use Rattle.cipher.specs.Chain.{LoneSet}
 use Rattle.archive.specs.Blocks.{WordRows, Table}
@@ -16,30 +17,43 @@ use Rattle.archive.proofs.OpenedLaws.{table-ready, rows-ready, open-bad
 use Rattle.archive.proofs.open.open.Statement.{statement}
 use Rattle.archive.proofs.open.open.Tie as tie
 
+-- the parameters, seen from the test of the IV
+abbrev given : tie.Else1 → tie.Start
+given c = c .before .before .before .before .before .before .before .before .before .before .before .before .before
+
 -- the set is one
-set-is : (c : tie.Else1) → LoneSet (c .before .before .before .before .before .before .before .before .before .before .before .before .before .args .set .now)
+set-is : (c : tie.Else1) → LoneSet (given c .args .set .now)
 set-is c = set-done _ _ (c .before .before .before .check-set .ensures) (c .before .enum-told2 .given .1)
 
 -- the IV and the sealed text are bytes
-texts : (c : tie.Else1) → Bytes (c .before .before .before .before .before .before .before .before .before .before .before .before .before .args .iv .now) × Bytes (c .before .before .before .before .before .before .before .before .before .before .before .before .before .args .sealed .now)
+texts : (c : tie.Else1) → Bytes (given c .args .iv .now) × Bytes (given c .args .sealed .now)
 texts c =
     let q = c .before .before .before .before .before .before .before .before .before in
-    let a = q .before .before .before .before .args in
-    (bytes-of (a .iv .now) (λ j h. omega (arith, q .before .shared-slice-known3 .given j)), bytes-of (a .sealed .now) (λ j h. omega (arith, q .shared-slice-known4 .given j)))
+    let a = given c .args in (
+      bytes-of (a .iv .now) (λ j h. omega (arith, q .before .shared-slice-known3 .given j)),
+      bytes-of (a .sealed .now) (λ j h. omega (arith, q .shared-slice-known4 .given j)),
+    )
 
 -- the sealed text is whole blocks
-whole : (c : tie.Else2) → (0 < length (c .before .before .before .before .before .before .before .before .before .before .before .before .before .before .before .args .sealed .now)) × (length (c .before .before .before .before .before .before .before .before .before .before .before .before .before .before .before .args .sealed .now) ≤ 1048576) × (length (c .before .before .before .before .before .before .before .before .before .before .before .before .before .before .before .args .sealed .now) % 16 ≡ 0)
+abbrev size : tie.Else2 → ℕ
+size c = length (given (c .before .before) .args .sealed .now)
+
+whole : (c : tie.Else2) → (0 < size c) × (size c ≤ longestCode) × (size c % blockLength ≡ 0)
 whole c = text-known _ (sym (c .before .bad-text .ensures) ∙ c .if2 .left)
 
 -- the padding is that of a block
-few-is : (c : tie.Else4) → c .before .padding .result ≤ 16
+few-is : (c : tie.Else4) → c .before .padding .result ≤ blockLength
 few-is c =
     let r = c .before .before .before .before .before .before .before in
     let t = r .before .before in
     let i = t .before .before in
     let s = i .before .before .before .before .before in
-    let a = s .before .before .before .before .before .before .before .before .args in
-    few (a .key .now) (a .set .now) (a .iv .now) (a .sealed .now) (a .out .now) _ (sym (s .before .before .of-key-len .ensures) ∙ s .size .given .1) (set-is i) (i .if1 .left) (sym (t .before .bad-text .ensures) ∙ t .if2 .left) (r .before .if3 .left) (texts i .0) (texts i .1) _ _ _ _ (r .key-rows .ensures) (c .before .before .before .before .before .decodings .ensures) (c .before .before .open-block .ensures) (c .before .padding .ensures) (c .if4 .left)
+    let a = given i .args in
+    let found = sym (s .before .before .of-key-len .ensures) ∙ s .size .given .1 in
+    let good = sym (t .before .bad-text .ensures) ∙ t .if2 .left in
+    let last = c .before .before .open-block .ensures in
+    few (a .key .now) (a .set .now) (a .iv .now) (a .sealed .now) (a .out .now) _ found (set-is i) (i .if1 .left) good (r .before .if3 .left)
+    (texts i .0) (texts i .1) _ _ _ _ (r .key-rows .ensures) (c .before .before .before .before .before .decodings .ensures) last (c .before .padding .ensures) (c .if4 .left)
 
 -- what the functions on blocks ask for
 ready : (c : tie.After-decodings) → WordRows (c .before .before .key-rows .result) × Table (c .decodings .last .1 .0)
@@ -47,7 +61,8 @@ ready c =
     let i = c .before .before .before .before .before .before in
     let q = i .before .before .before .before .before .before .before .before .before .before .before .before in
     let a = q .before .args in
-    (rows-ready _ (a .key .now) _ (c .before .before .key-rows .ensures) (bytes-of (a .key .now) (λ j h. omega (arith, q .shared-slice-known .given j))), table-ready (a .set .now) _ (set-is i) (c .decodings .ensures))
+    let key = bytes-of (a .key .now) (λ j h. omega (arith, q .shared-slice-known .given j)) in
+    (rows-ready _ (a .key .now) _ (c .before .before .key-rows .ensures) key, table-ready (a .set .now) _ (set-is i) (c .decodings .ensures))
 
 returns : tie.Need-returns
 returns c = sym (open-1 _ _ _ _ _ (sym (c .before .before .of-key-len .ensures) ∙ c .enum-told .given .1))
@@ -89,7 +104,7 @@ decodings-requires c κs =
 sub-k : tie.Need-sub-k
 sub-k c =
     let t = c .before .before .before .before .before in
-    omega (arith, text-known _ (sym (t .before .bad-text .ensures) ∙ t .if2 .left) .0, text-known _ (sym (t .before .bad-text .ensures) ∙ t .if2 .left) .2)
+    omega (arith, whole t .0, whole t .2)
 
 open-block-requires : tie.Need-open-block-requires
 open-block-requires c κs =
@@ -104,7 +119,11 @@ returns-6 c =
     let t = r .before .before in
     let i = t .before .before in
     let s = i .before .before .before .before .before in
-    sym (open-bad _ _ _ _ _ _ (sym (s .before .before .of-key-len .ensures) ∙ s .size .given .1) (set-is i) (i .if1 .left) (sym (t .before .bad-text .ensures) ∙ t .if2 .left) (r .before .if3 .left) (texts i .0) (texts i .1) _ _ _ _ (r .key-rows .ensures) (c .before .before .before .before .before .decodings .ensures) (c .before .before .open-block .ensures) (c .before .padding .ensures) (c .if4 .taken))
+    let found = sym (s .before .before .of-key-len .ensures) ∙ s .size .given .1 in
+    let good = sym (t .before .bad-text .ensures) ∙ t .if2 .left in
+    let last = c .before .before .open-block .ensures in
+    sym (open-bad _ _ _ _ _ _ found (set-is i) (i .if1 .left) good (r .before .if3 .left) (texts i .0) (texts i .1) _ _ _ _
+    (r .key-rows .ensures) (c .before .before .before .before .before .decodings .ensures) last (c .before .padding .ensures) (c .if4 .taken))
 
 open-blocks-requires : tie.Need-open-blocks-requires
 open-blocks-requires c κs =
@@ -112,7 +131,9 @@ open-blocks-requires c κs =
     let t = f .before .before .before .before .before .before .before .before .before in
     let i = t .before .before in
     let r = ready (f .before .before .before .before .before) in
-    (r .0, r .1, i .if1 .left, omega (arith, whole t .0, whole t .1, whole t .2), omega (arith, whole t .0, whole t .2), omega (arith, whole t .0, whole t .2, f .before .before .before .before .before .before .before .before .if3 .left))
+    let room = f .before .before .before .before .before .before .before .before .if3 .left in
+    let w = whole t in
+    (r .0, r .1, i .if1 .left, omega (arith, w .0, w .1, w .2), omega (arith, w .0, w .2), omega (arith, w .0, w .2, room))
 
 mul-put-part : tie.Need-mul-put-part
 mul-put-part c =
@@ -130,7 +151,12 @@ put-part-requires c κs =
     let t = r .before .before in
     let i = t .before .before in
     let s = i .before .before .before .before .before in
-    (omega arith, room-left _ _ _ _ _ _ (sym (s .before .before .of-key-len .ensures) ∙ s .size .given .1) (set-is i) (i .if1 .left) (sym (t .before .bad-text .ensures) ∙ t .if2 .left) (r .before .if3 .left) (texts i .0) (texts i .1) _ _ _ _ (r .key-rows .ensures) (f .before .before .before .before .before .decodings .ensures) (f .before .before .open-block .ensures) (f .before .padding .ensures) (f .if4 .left) _ (c .before .before .before .open-blocks .ensures))
+    let found = sym (s .before .before .of-key-len .ensures) ∙ s .size .given .1 in
+    let good = sym (t .before .bad-text .ensures) ∙ t .if2 .left in
+    let table = f .before .before .before .before .before .decodings .ensures in
+    let left = room-left _ _ _ _ _ _ found (set-is i) (i .if1 .left) good (r .before .if3 .left) (texts i .0) (texts i .1) _ _ _ _
+    (r .key-rows .ensures) table (f .before .before .open-block .ensures) (f .before .padding .ensures) (f .if4 .left) _ in
+    (omega arith, left (c .before .before .before .open-blocks .ensures))
 
 sub-t15 : tie.Need-sub-t15
 sub-t15 c =
@@ -145,7 +171,17 @@ returns-7 c =
     let t = r .before .before in
     let i = t .before .before in
     let s = i .before .before .before .before .before in
-    open-made _ _ _ _ _ _ (sym (s .before .before .of-key-len .ensures) ∙ s .size .given .1) (set-is i) (i .if1 .left) (sym (t .before .bad-text .ensures) ∙ t .if2 .left) (r .before .if3 .left) (texts i .0) (texts i .1) _ _ _ _ (r .key-rows .ensures) (f .before .before .before .before .before .decodings .ensures) (f .before .before .open-block .ensures) (f .before .padding .ensures) (f .if4 .left) _ _ (c .before .before .before .before .before .before .open-blocks .ensures) (c .before .before .put-part .ensures)
+    let found = sym (s .before .before .of-key-len .ensures) ∙ s .size .given .1 in
+    let good = sym (t .before .bad-text .ensures) ∙ t .if2 .left in
+    let table = f .before .before .before .before .before .decodings .ensures in
+    let written = c .before .before .before .before .before .before .open-blocks .ensures in
+    open-made _ _ _ _ _ _ found (set-is i) (i .if1 .left) good (r .before .if3 .left) (texts i .0) (texts i .1) _ _ _ _
+    (r .key-rows .ensures) table (f .before .before .open-block .ensures) (f .before .padding .ensures) (f .if4 .left) _ _
+    written (c .before .before .put-part .ensures)
 
 pub open-spec : {M : Type 1} → statement M
-open-spec = tie.close (tie.spec (λ c κs. search needs) (λ c. search needs) (λ c. search needs) returns (λ c κs. search needs) (λ c. search needs) returns-2 (λ c. search needs) returns-3 (λ c κs. search needs) returns-4 returns-5 key-rows-requires (λ c. search needs) decodings-requires sub-k (λ c. search needs) open-block-requires (λ c κs. search needs) returns-6 (λ c. search needs) open-blocks-requires mul-put-part sub-put-part put-part-requires sub-t15 (λ c. search needs) returns-7)
+open-spec = tie.close (tie.spec
+    (λ c κs. search needs) (λ c. search needs) (λ c. search needs) returns (λ c κs. search needs) (λ c. search needs)
+    returns-2 (λ c. search needs) returns-3 (λ c κs. search needs) returns-4 returns-5 key-rows-requires (λ c. search needs)
+    decodings-requires sub-k (λ c. search needs) open-block-requires (λ c κs. search needs) returns-6 (λ c. search needs)
+    open-blocks-requires mul-put-part sub-put-part put-part-requires sub-t15 (λ c. search needs) returns-7)

@@ -1,10 +1,9 @@
 -- `open::put_part` meets its contract. The invariant: the first k bytes are in their places.
 use mathlib.Core.Path.{_≡_, refl, ap, _∙_}
-use mathlib.Core.List.{List, _++_}
 use Prim.Native.Nat.{ℕ, _-_, _≤_}
 use native.Mathlib.Omega.{arith}
 use borrow.Author.Needs.{needs}
-use lib.ListN.{length, take, drop, length-set}
+use lib.ListN.{length, length-set}
 use lib.Seq.{paste, paste-zero}
 use Rattle.lists.proofs.PartLaws.{paste-turn}
 use Rattle.archive.proofs.open.put_part.Statement.{statement}
@@ -23,7 +22,9 @@ loop-again : tie.Need-loop-again Inv-loop μ-loop
 loop-again c =
     let v = c .before .loop .inv in
     let a = c .before .before .args in
-    (omega arith, v .1, paste-turn (a .out .now) (c .before .loop .out) (a .t3) (a .at) (a .n) (c .before .loop .k) (c .before .before .pre .1) (omega arith) (omega (arith, c .before .before .pre .0, v .1)) (v .2), simp length-set (v .3))
+    let q = c .before .before .pre in
+    let pasted = paste-turn (a .out .now) (c .before .loop .out) (a .t3) (a .at) (a .n) (c .before .loop .k) (q .1) (omega arith) in
+    (omega arith, v .1, pasted (omega (arith, q .0, v .1)) (v .2), simp length-set (v .3))
 
 returns : tie.Need-returns Inv-loop μ-loop
 returns c =
@@ -33,4 +34,6 @@ returns c =
     v .2 ∙ ap (λ (j : ℕ). paste (a .out .now) (a .at) (a .t3) j) e
 
 pub put-part-spec : {M : Type 1} → statement M
-put-part-spec = tie.close (tie.spec Inv-loop μ-loop loop-holds (λ c. search needs) (λ c. search needs) (λ c. search needs) (λ c. search needs) (λ c. search needs) loop-again (λ c. search needs) returns)
+put-part-spec = tie.close (tie.spec
+    Inv-loop μ-loop loop-holds (λ c. search needs) (λ c. search needs) (λ c. search needs) (λ c. search needs)
+    (λ c. search needs) loop-again (λ c. search needs) returns)

@@ -1,6 +1,6 @@
 -- `padding::ends_with` meets its contract. The invariant: the first k of those bytes are v.
 use mathlib.Core.Path.{_≡_, refl, sym, ap, _∙_}
-use mathlib.Core.Bool.{Bool, true}
+use mathlib.Core.Bool.{true}
 use Prim.Native.Nat.{ℕ, _+_, _-_, _≤_}
 use native.Mathlib.Omega.{arith}
 use borrow.Author.Tests.{eq-eqb, ne-eqb}
@@ -43,4 +43,6 @@ returns-2 c =
     sym (ap (λ (n : ℕ). every n (λ i. eqb (getD (a .t1) (16 - a .v + i) 0) (a .v))) (sym e) ∙ l .loop .inv .1)
 
 pub ends-with-spec : {M : Type 1} → statement M
-ends-with-spec = tie.close (tie.spec Inv-loop μ-loop loop-holds (λ c. search needs) (λ c. search needs) (λ c. search needs) (λ c κs. search needs) returns (λ c. search needs) (λ c. search needs) loop-again returns-2)
+ends-with-spec = tie.close (tie.spec
+    Inv-loop μ-loop loop-holds (λ c. search needs) (λ c. search needs) (λ c. search needs) (λ c κs. search needs) returns
+    (λ c. search needs) (λ c. search needs) loop-again returns-2)

@@ -1,15 +1,13 @@
 -- `lea::first_rounds` meets its contract.
-use mathlib.Core.Path.{sym, ap, ap₂, _∙_}
-use mathlib.Core.List.{List}
-use Prim.Native.Nat.{ℕ}
+use mathlib.Core.Path.{sym, _∙_}
+use mathlib.Core.Bool.{cond}
 use native.Mathlib.Omega.{arith}
 use borrow.Author.Needs.{needs}
-use Rattle.cipher.specs.Lea.{keyRows}
+use lib.Dec.{leb}
 use Rattle.cipher.specs.KeySize.{keyLength, rounds}
-use Rattle.cipher.specs.Schedule.{words4}
 use Rattle.cipher.specs.Lea as L
 use Rattle.cipher.proofs.KeySizeLaws.{found-length, rounds-le}
-use Rattle.cipher.proofs.AnswerLaws.{at-most, at-most-all, on-key, on-length, on-done}
+use Rattle.cipher.proofs.AnswerLaws.{at-most, at-most-all, on-key, on-length, on-rows}
 use Rattle.cipher.proofs.lea.first_rounds.Statement.{statement}
 use Rattle.cipher.proofs.lea.first_rounds.Tie as tie
 
@@ -36,30 +34,20 @@ unfolding L.firstRounds
 returns-3 c =
     let t = c .before .before .before .before .before in
     let s = t .before .before .before in
-    let z = s .size .given .0 .0 in
-    let a = s .before .before .before .before .before .args in
-    let few = at-most (a .n) (rounds z) (omega arith) in
-    c .done .ensures
-    ∙ ap (λ (x : List ℕ). (0, L.bytes x))
-    (c .before .first-rounds .ensures
-    ∙ ap₂ (λ (rows : List (List ℕ)) (w : List ℕ). L.forward rows (a .n) w) (t .key-rows .ensures) (c .before .before .words .ensures)
-    ∙ ap (λ (m : ℕ). L.forward (keyRows z (a .key .now)) m (words4 (a .block .now))) (sym few))
-    ∙ sym (on-done _ _ _ z (sym (s .before .before .of-key-len .ensures) ∙ s .size .given .1) (t .before .if1 .left))
+    let n = s .before .before .before .before .before .args .n in
+    let found = sym (s .before .before .of-key-len .ensures) ∙ s .size .given .1 in
+    on-rows L.forward (λ z. cond (leb n (rounds z)) n (rounds z)) _ _ _ found (t .before .if1 .left) _ _ _ _ _ (c .done .ensures)
+    (c .before .first-rounds .ensures) (t .key-rows .ensures) (c .before .before .words .ensures) (sym (at-most n _ (omega arith)))
 
 returns-4 : tie.Need-returns-4
 unfolding L.firstRounds
 returns-4 c =
     let t = c .before .before .before .before .before in
     let s = t .before .before .before in
-    let z = s .size .given .0 .0 in
-    let a = s .before .before .before .before .before .args in
-    let many = at-most-all (a .n) (rounds z) (omega arith) in
-    c .done2 .ensures
-    ∙ ap (λ (x : List ℕ). (0, L.bytes x))
-    (c .before .encipher .ensures
-    ∙ ap₂ (λ (rows : List (List ℕ)) (w : List ℕ). L.forward rows (rounds z) w) (t .key-rows .ensures) (c .before .before .words2 .ensures)
-    ∙ ap (λ (m : ℕ). L.forward (keyRows z (a .key .now)) m (words4 (a .block .now))) (sym many))
-    ∙ sym (on-done _ _ _ z (sym (s .before .before .of-key-len .ensures) ∙ s .size .given .1) (t .before .if1 .left))
+    let n = s .before .before .before .before .before .args .n in
+    let found = sym (s .before .before .of-key-len .ensures) ∙ s .size .given .1 in
+    on-rows L.forward (λ z. cond (leb n (rounds z)) n (rounds z)) _ _ _ found (t .before .if1 .left) _ _ _ _ _ (c .done2 .ensures)
+    (c .before .encipher .ensures) (t .key-rows .ensures) (c .before .before .words2 .ensures) (sym (at-most-all n _ (omega arith)))
 
 pub first-rounds-spec : {M : Type 1} → statement M
 first-rounds-spec = tie.close (tie.spec (λ c κs. search needs) (λ c. search needs) (λ c. search needs) (λ c κs. search needs) returns (λ c κs. search needs) returns-2 key-rows-requires (λ c κs. search needs) (λ c κs. search needs) first-rounds-requires (λ c κs. search needs) returns-3 (λ c κs. search needs) (λ c κs. search needs) (λ c κs. search needs) returns-4)

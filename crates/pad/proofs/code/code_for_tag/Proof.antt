@@ -19,10 +19,12 @@ returns c =
     let a = c .before .before .before .before .before .before .before .before .before .args in
     let t = c .before .before .before .before .tag-added in
     let m = a .message .now in
-    answer-refused (0, 0) (length (paddedForTag m), kindOf (length m)) (a .u .now) m (paddedForTag m) (a .out .now) (length m + t .result) (tag-length m ∙ ap (λ (k : ℕ). length m + k) (sym (t .ensures))) _ (c .before .before .before .admit .ensures) _ (c .before .why .given .1)
+    answer-refused (0, 0) (length (paddedForTag m), kindOf (length m)) (a .u .now) m (paddedForTag m) (a .out .now) (length m + t .result)
+    (tag-length m ∙ ap (λ (k : ℕ). length m + k) (sym (t .ensures))) _ (c .before .before .before .admit .ensures) _ (c .before .why .given .1)
 
 part-code-text-end : tie.Need-part-code-text-end
-part-code-text-end c = omega (arith, c .before .before .before .before .tag-added .ensures, added-most (length (c .before .before .before .before .before .before .before .before .before .args .message .now)))
+part-code-text-end c = omega (arith, c .before .before .before .before .tag-added .ensures, added-most
+    (length (c .before .before .before .before .before .before .before .before .before .args .message .now)))
 
 code-text-requires : tie.Need-code-text-requires
 code-text-requires c κs =
@@ -34,7 +36,8 @@ code-text-requires c κs =
     (h .0, h .1, omega (arith, h .2, f))
 
 add-t10 : tie.Need-add-t10
-add-t10 c = omega (arith, c .before .before .before .before .before .before .before .before .before .tag-added .ensures, added-most (length (c .before .before .before .before .before .before .before .before .before .before .before .before .before .before .args .message .now)))
+add-t10 c = omega (arith, c .before .before .before .before .before .before .before .before .before .tag-added .ensures, added-most
+    (length (c .before .before .before .before .before .before .before .before .before .before .before .before .before .before .args .message .now)))
 
 returns-2 : tie.Need-returns-2
 returns-2 c =
@@ -49,4 +52,7 @@ returns-2 c =
     (ap₂ (λ (n k : ℕ). (n, k)) (sym size) (c .before .before .before .before .before .before .before .before .before .before .kind-of .ensures))
 
 pub code-for-tag-spec : {M : Type 1} → statement M
-code-for-tag-spec = tie.close (tie.spec (λ c κs. search needs) (λ c κs. search needs) admit-requires (λ c. search needs) returns (λ c. search needs) (λ c. search needs) (λ c. search needs) (λ c. search needs) part-code-text-end code-text-requires add-t10 (λ c. search needs) returns-2)
+code-for-tag-spec = tie.close (tie.spec
+    (λ c κs. search needs) (λ c κs. search needs) admit-requires (λ c. search needs) returns (λ c. search needs)
+    (λ c. search needs) (λ c. search needs) (λ c. search needs) part-code-text-end code-text-requires add-t10
+    (λ c. search needs) returns-2)

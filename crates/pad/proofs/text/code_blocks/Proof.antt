@@ -54,4 +54,7 @@ returns c =
     blocks-full (e .args .images .now) (e .args .text .now) _ _ (e .args .n) (l .loop .k) (l .loop .a) (e .pre .1) (l .loop .inv .3) (l .loop .inv .1) (omega arith)
 
 pub code-blocks-spec : {M : Type 1} → statement M
-code-blocks-spec = tie.close (tie.spec Inv-loop μ-loop loop-holds (λ c. search needs) (λ c. search needs) (λ c. search needs) (λ c. search needs) (λ c. search needs) (λ c. search needs) (λ c. search needs) look-up-requires (λ c. search needs) (λ c. search needs) loop-again same-length returns)
+code-blocks-spec = tie.close (tie.spec
+    Inv-loop μ-loop loop-holds (λ c. search needs) (λ c. search needs) (λ c. search needs) (λ c. search needs)
+    (λ c. search needs) (λ c. search needs) (λ c. search needs) look-up-requires (λ c. search needs) (λ c. search needs)
+    loop-again same-length returns)

@@ -13,7 +13,8 @@ use Rattle.pad.proofs.text.code_part.Statement.{statement}
 use Rattle.pad.proofs.text.code_part.Tie as tie
 
 abbrev Inv-loop : tie.InvT-loop
-Inv-loop images from part out₀ n i₀ out i = (i ≤ n) × (n ≡ length part) × (length out ≡ length out₀) × (out ≡ (take from out₀ ++ tab i (λ k. imageAt images ((from + k) % 16) (getD part k 0))) ++ drop (from + i) out₀)
+Inv-loop images from part out₀ n i₀ out i = (i ≤ n) × (n ≡ length part) × (length out ≡ length out₀)
+    × (out ≡ (take from out₀ ++ tab i (λ k. imageAt images ((from + k) % 16) (getD part k 0))) ++ drop (from + i) out₀)
 
 abbrev μ-loop : tie.MeasureT-loop
 μ-loop images from part out₀ n i₀ out i = n - i
@@ -33,7 +34,8 @@ loop-again c =
       omega arith,
       l .loop .inv .1,
       simp length-set (l .loop .inv .2),
-      part-turn (λ k. imageAt (a .images .now) ((a .from + k) % 16) (getD (a .part .now) k 0)) (a .out .now) (l .loop .out) (a .from) (l .loop .i) (length (a .part .now)) (l .before .before .before .before .pre .1) (l .loop .inv .3) _
+      part-turn (λ k. imageAt (a .images .now) ((a .from + k) % 16) (getD (a .part .now) k 0)) (a .out .now) (l .loop .out) (a .from) (l .loop .i)
+      (length (a .part .now)) (l .before .before .before .before .pre .1) (l .loop .inv .3) _
           (ap (imageAt (a .images .now) ((a .from + l .loop .i) % 16)) (c .before .wide .ensures .0)) (omega arith),
     )
 
@@ -45,7 +47,11 @@ unfolding codedPart
 returns c =
     let l = c .before in
     let a = l .before .before .before .before .args in
-    part-full (λ k. imageAt (a .images .now) ((a .from + k) % 16) (getD (a .part .now) k 0)) (a .out .now) (l .loop .out) (a .from) (l .loop .i) (length (a .part .now)) (l .before .before .before .before .pre .1) (l .loop .inv .3) (omega arith)
+    part-full (λ k. imageAt (a .images .now) ((a .from + k) % 16) (getD (a .part .now) k 0)) (a .out .now) (l .loop .out) (a .from) (l .loop .i)
+    (length (a .part .now)) (l .before .before .before .before .pre .1) (l .loop .inv .3) (omega arith)
 
 pub code-part-spec : {M : Type 1} → statement M
-code-part-spec = tie.close (tie.spec Inv-loop μ-loop loop-holds (λ c. search needs) (λ c. search needs) (λ c. search needs) (λ c κs. search needs) (λ c. search needs) shared-slice-read-out (λ c. search needs) (λ c. search needs) (λ c. search needs) (λ c. search needs) loop-again same-length returns)
+code-part-spec = tie.close (tie.spec
+    Inv-loop μ-loop loop-holds (λ c. search needs) (λ c. search needs) (λ c. search needs) (λ c κs. search needs)
+    (λ c. search needs) shared-slice-read-out (λ c. search needs) (λ c. search needs) (λ c. search needs)
+    (λ c. search needs) loop-again same-length returns)

@@ -19,7 +19,11 @@ returns c =
     let m = a .message .now in
     let low : Bytes m = bytes-of m (λ j h. omega (arith, k .before .shared-slice-known2 .given j)) in
     let more : Bytes (a .added .now) = bytes-of (a .added .now) (λ j h. omega (arith, k .shared-slice-known3 .given j)) in
-    all-written (a .set .now) _ m (a .added .now) (a .out .now) _ _ _ (length m / 16 * 16) (i .images .ensures) low more (omega arith) (b .code-blocks .ensures) (p .code-part .ensures) (c .before .before .code-part2 .ensures)
+    all-written (a .set .now) _ m (a .added .now) (a .out .now) _ _ _ (length m / 16 * 16) (i .images .ensures) low more (omega arith) (b .code-blocks .ensures)
+    (p .code-part .ensures) (c .before .before .code-part2 .ensures)
 
 pub code-text-spec : {M : Type 1} → statement M
-code-text-spec = tie.close (tie.spec (λ c. search needs) (λ c κs. search needs) (λ c. search needs) (λ c. search needs) (λ c κs. search needs) (λ c. search needs) (λ c. search needs) (λ c. search needs) (λ c. search needs) (λ c κs. search needs) (λ c. search needs) (λ c κs. search needs) (λ c. search needs) returns)
+code-text-spec = tie.close (tie.spec
+    (λ c. search needs) (λ c κs. search needs) (λ c. search needs) (λ c. search needs) (λ c κs. search needs)
+    (λ c. search needs) (λ c. search needs) (λ c. search needs) (λ c. search needs) (λ c κs. search needs)
+    (λ c. search needs) (λ c κs. search needs) (λ c. search needs) returns)

@@ -17,14 +17,19 @@ returns : tie.Need-returns
 unfolding sealedOpened
 returns c =
     let a = c .before .before .before .before .before .before .before .before .before .before .before .before .before .before .args in
-    written-refused _ _ _ (c .before .before .before .before .before .seal .ensures) (a .out .now) (λ f. openAnswer (a .key .now) (a .set .now) (a .iv .now) f (a .out .now)) _ (c .before .why .given .1)
+    written-refused _ _ _ (c .before .before .before .before .before .seal .ensures) (a .out .now)
+    (λ f. openAnswer (a .key .now) (a .set .now) (a .iv .now) f (a .out .now)) _ (c .before .why .given .1)
 
 returns-2 : tie.Need-returns-2
 unfolding sealedOpened
 returns-2 c =
     let a = c .before .before .before .before .before .before .before .before .before .before .before .before .before .before .before .before .before .before .before .before .args in
-    ap (λ (y : (ℕ × ℕ) × List ℕ). (y .0, (c .before .before .before .before .before .before .before .before .before .before .before .seal .last .1 .1 .1 .0, y .1))) (c .before .before .«open» .ensures)
-    ∙ sym (written-done _ _ _ (c .before .before .before .before .before .before .before .before .before .before .before .seal .ensures) (a .out .now) (λ f. openAnswer (a .key .now) (a .set .now) (a .iv .now) f (a .out .now)) _ (c .before .before .before .before .before .before .before .n .given .1))
+    ap (λ (y : (ℕ × ℕ) × List ℕ). (y .0, (c .before .before .before .before .before .before .before .before .before .before .before .seal .last .1 .1 .1 .0,
+    y .1))) (c .before .before .«open» .ensures)
+    ∙ sym (written-done _ _ _ (c .before .before .before .before .before .before .before .before .before .before .before .seal .ensures) (a .out .now)
+    (λ f. openAnswer (a .key .now) (a .set .now) (a .iv .now) f (a .out .now)) _ (c .before .before .before .before .before .before .before .n .given .1))
 
 pub seal-open-spec : {M : Type 1} → statement M
-seal-open-spec = tie.close (tie.spec (λ c κs. search needs) (λ c. search needs) (λ c. search needs) (λ c. search needs) (λ c. search needs) part-open-end (λ c κs. search needs) (λ c. search needs) returns (λ c. search needs) (λ c. search needs) returns-2)
+seal-open-spec = tie.close (tie.spec
+    (λ c κs. search needs) (λ c. search needs) (λ c. search needs) (λ c. search needs) (λ c. search needs) part-open-end
+    (λ c κs. search needs) (λ c. search needs) returns (λ c. search needs) (λ c. search needs) returns-2)

@@ -32,4 +32,6 @@ returns c =
     h .loop .inv .1 ∙ ap (λ (j : ℕ). afterBlocks (a .book .now) (a .coded .now) j (a .s)) e
 
 pub call-blocks-spec : {M : Type 1} → statement M
-call-blocks-spec = tie.close (tie.spec Inv-loop μ-loop loop-holds (λ c. search needs) (λ c. search needs) (λ c. search needs) (λ c. search needs) (λ c. search needs) (λ c κs. search needs) (λ c. search needs) (λ c. search needs) loop-again returns)
+call-blocks-spec = tie.close (tie.spec
+    Inv-loop μ-loop loop-holds (λ c. search needs) (λ c. search needs) (λ c. search needs) (λ c. search needs)
+    (λ c. search needs) (λ c κs. search needs) (λ c. search needs) (λ c. search needs) loop-again returns)

@@ -28,7 +28,10 @@ returns-2 c =
     let x = c .before .before .before .before .before .before .before .before .before .before .code-for-tag .last .1 .1 .0 in
     ap (λ (y : ℕ × ℕ). (y, x)) (c .check .ensures)
     ∙ ap (λ (t : List ℕ). (checkAnswer (a .key .now) (a .set .now) (a .message .now) t, x)) (c .before .before .tag-of .ensures)
-    ∙ sym (tagged-done _ _ _ _ _ (c .before .before .before .before .before .before .before .before .before .before .code-for-tag .ensures) (a .key .now) (a .set .now) (a .book .now) _ _ (c .before .before .before .before .before .before .n .given .1))
+    ∙ sym (tagged-done _ _ _ _ _ (c .before .before .before .before .before .before .before .before .before .before .code-for-tag .ensures) (a .key .now)
+    (a .set .now) (a .book .now) _ _ (c .before .before .before .before .before .before .n .given .1))
 
 pub code-check-spec : {M : Type 1} → statement M
-code-check-spec = tie.close (tie.spec (λ c κs. search needs) (λ c. search needs) (λ c. search needs) (λ c. search needs) (λ c. search needs) part-tag-of-end tag-of-requires (λ c. search needs) (λ c κs. search needs) (λ c. search needs) returns (λ c. search needs) returns-2)
+code-check-spec = tie.close (tie.spec
+    (λ c κs. search needs) (λ c. search needs) (λ c. search needs) (λ c. search needs) (λ c. search needs) part-tag-of-end
+    tag-of-requires (λ c. search needs) (λ c κs. search needs) (λ c. search needs) returns (λ c. search needs) returns-2)

@@ -36,7 +36,8 @@ part-set-end : tie.Need-part-set-end
 part-set-end c = omega (arith, sets-fit _ _ _ _ _ (c .before .before .before .before .before .before .before .start .ensures) _ (c .before .before .before .size .given .1) _ (c .rounds .ensures))
 
 part-code-check-end : tie.Need-part-code-check-end
-part-code-check-end c = omega (arith, book-fits _ _ _ _ _ (c .before .before .before .before .before .before .before .before .before .before .start .ensures) _ (c .before .before .before .before .before .before .size .given .1) _ (c .before .book-len .ensures))
+part-code-check-end c = omega (arith, book-fits _ _ _ _ _ (c .before .before .before .before .before .before .before .before .before .before .start .ensures) _
+    (c .before .before .before .before .before .before .size .given .1) _ (c .before .book-len .ensures))
 
 returns-2 : tie.Need-returns-2
 unfolding tagRoundtrip
@@ -56,4 +57,8 @@ returns-2 c =
     ∙ sym (way-done _ _ _ _ _ e _ d _ _)
 
 pub tag-roundtrip-spec : {M : Type 1} → statement M
-tag-roundtrip-spec = tie.close (tie.spec (λ c κs. search needs) (λ c. search needs) (λ c. search needs) (λ c. search needs) (λ c. search needs) part-u-end (λ c κs. search needs) add-last mul-last add-set (λ c. search needs) (λ c. search needs) part-set-end (λ c κs. search needs) (λ c. search needs) (λ c. search needs) part-code-check-end (λ c κs. search needs) (λ c. search needs) returns (λ c. search needs) (λ c. search needs) returns-2)
+tag-roundtrip-spec = tie.close (tie.spec
+    (λ c κs. search needs) (λ c. search needs) (λ c. search needs) (λ c. search needs) (λ c. search needs) part-u-end
+    (λ c κs. search needs) add-last mul-last add-set (λ c. search needs) (λ c. search needs) part-set-end
+    (λ c κs. search needs) (λ c. search needs) (λ c. search needs) part-code-check-end (λ c κs. search needs)
+    (λ c. search needs) returns (λ c. search needs) (λ c. search needs) returns-2)
