@@ -1,9 +1,9 @@
 -- What an answer 0 of the builder tells: the key has a known size, the chain is valid, and the book in the buffer is that of
--- the key's rows and the chain.
+-- the key's rows and the chain. And when it is given: with every such key and chain, into a buffer with room.
 use mathlib.Core.Path.{_≡_, refl, sym, ap, _∙_, subst}
 use mathlib.Core.Bool.{Bool, true, false, cond, not, _||_}
 use mathlib.Core.List.{List, [], _∷_, _++_}
-use Prim.Native.Nat.{ℕ}
+use Prim.Native.Nat.{ℕ, _≤_}
 use native.Mathlib.Omega.{arith}
 use lib.Dec.{eqb, lit<}
 use lib.ListN.{length, take, drop}
@@ -11,16 +11,18 @@ use lib.Seq.{take-at}
 use Rattle.lists.specs.Refusals.{first}
 use Rattle.lists.proofs.RefusalLaws.{Clear}
 use Rattle.cipher.specs.Lea.{keyRows}
-use Rattle.cipher.specs.KeySize.{bookLength, sizeBy, sizeOfKey}
+use Rattle.cipher.specs.KeySize.{rounds, bookLength, sizeBy, sizeOfKey}
 use Rattle.cipher.specs.Chain.{Chain, chainTests}
 use Rattle.cipher.specs.Book.{bookOf, Book}
 use Rattle.cipher.specs.Answers.{keyTests, keyLengthSize, keySize, roomTests}
+use Rattle.cipher.specs.declared.size.KeySize.{KeySize}
 use Rattle.cipher.specs.declared.size.SizeFound.the-variants.{Found, Unknown}
 use Rattle.cipher.specs.declared.size.KeySize.the-variants.{Bytes16, Bytes24, Bytes32}
 use Rattle.cipher.proofs.CheckLaws.{Numbered}
 use Rattle.cipher.proofs.ChainTests.{chain-tested}
 use Rattle.cipher.proofs.BookLaw.{book-size, book-made}
 use Rattle.book.specs.Answers.{builtInto}
+use Rattle.book.proofs.AnswerLaws.{built-done}
 use Rattle.claims.specs.Built.{Built, bookIn, keyRounds}
 
 -- an answer of which the number is 0 is no refusal's
@@ -80,3 +82,10 @@ module _ (key ch out held : List ℕ) (built : Built key ch out held) where
 
   pub built-book : Book (keyRounds key) (keyRows (keySize key) key) ch (bookIn key held)
   built-book = subst (λ (b : List ℕ). Book (keyRounds key) (keyRows (keySize key) key) ch b) (sym built-is) (book-made (keyRounds key) (keyRows (keySize key) key) ch)
+
+-- with every key of a known size and every valid chain a book is built, into every buffer that has room for it
+pub any-built : (z : KeySize) (key ch out : List ℕ) → sizeOfKey (length key) ≡ Found z → Chain z ch → bookLength z ≤ length out
+    → Built key ch out (bookOf (rounds z) (keyRows z key) ch ++ drop (bookLength z) out)
+any-built z key ch out e v room =
+    let book = bookOf (rounds z) (keyRows z key) ch in
+    sym (built-done key ch out bookLength (λ y. bookOf (rounds y) (keyRows y key) ch) z e v room book refl)
