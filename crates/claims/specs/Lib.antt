@@ -5,3 +5,4 @@ pub mod Sealing
 pub mod Tags
 pub mod Identity
 pub mod Demand3
+pub mod Order

@@ -72,6 +72,13 @@ keyWhole n key = (not (eqb (length key) n), 1) ∷ []
 abbrev pub restTests : KeySize → List ℕ → List ℕ → List (Bool × ℕ)
 restTests z ch b = chainTests z ch ++ blockTests b
 
+-- all of them, for an input
+abbrev pub inputTests : List ℕ → List (Bool × ℕ)
+inputTests i =
+    let n = lengthByte i in
+    let z = keyLengthSize n in
+    keyLengthTests n ++ (keyWhole n (keyPart n i) ++ restTests z (chainPart z (afterKey n i)) (blockPart z (afterKey n i)))
+
 -- the refusal whose number is the lowest, or the two lines
 unfoldable pub printed : List ℕ → List ℕ
 printed i =
@@ -80,7 +87,7 @@ printed i =
     let key = keyPart n i in
     let ch = chainPart z (afterKey n i) in
     let b = blockPart z (afterKey n i) in
-    first (keyLengthTests n ++ (keyWhole n key ++ restTests z ch b)) refusedText (twoLines z key ch b)
+    first (inputTests i) refusedText (twoLines z key ch b)
 
 -- the same where length byte and key are taken, from a key of size z, the chain's bytes and what is after them
 unfoldable pub printedOn : KeySize → List ℕ → List ℕ → List ℕ → List ℕ
