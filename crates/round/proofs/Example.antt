@@ -10,9 +10,9 @@ use Rattle.cipher.specs.Lea.{keyed, round, forward, bytes, firstRounds, enciphe
 use Rattle.cipher.specs.declared.size.KeySize.the-variants.{Bytes16}
 use Rattle.cipher.specs.Vectors.{key16, plain16, cipher16}
 use Rattle.cipher.proofs.Vectors.{vector16}
-use Rattle.round.specs.Text.{hexOf, line, refusedText}
+use Rattle.round.specs.Text.{hexOf, line, decimalWithin, decimal, refusedText}
 use Rattle.round.specs.Round.{lengthByte, keyPart, printed, Input, plainBlock}
-use Rattle.round.specs.Example.{firstLine, lastLine, refusedSeven}
+use Rattle.round.specs.Example.{firstLine, lastLine, refusedSeven, refusedThirtySeven}
 use Rattle.round.proofs.RoundMeaning.{printed-lea}
 
 first-line : line 1 1 (firstRounds (schedule Bytes16 key16) 1 plain16) ≡ firstLine
@@ -30,5 +30,9 @@ example i h k b =
     ∙ ap₂ {C = List ℕ} (λ (x y : List ℕ). x ++ y) first-line (ap (line 2 24) vector16 ∙ last-line)
 
 pub refusal : refusedText 7 ≡ refusedSeven
-unfolding refusedText
+unfolding refusedText decimal decimalWithin
 refusal = refl
+
+pub refusal-of-two : refusedText 37 ≡ refusedThirtySeven
+unfolding refusedText decimal decimalWithin
+refusal-of-two = refl

@@ -10,6 +10,9 @@ firstLine = 49 ∷ 32 ∷ 53 ∷ 49 ∷ 57 ∷ 48 ∷ 48 ∷ 55 ∷ 48 ∷ 102 �
 abbrev pub lastLine : List ℕ
 lastLine = 50 ∷ 52 ∷ 32 ∷ 57 ∷ 102 ∷ 99 ∷ 56 ∷ 52 ∷ 101 ∷ 51 ∷ 53 ∷ 50 ∷ 56 ∷ 99 ∷ 54 ∷ 99 ∷ 54 ∷ 49 ∷ 56 ∷ 53 ∷ 53 ∷ 51 ∷ 50 ∷ 99 ∷ 55 ∷ 97 ∷ 55 ∷ 48 ∷ 52 ∷ 54 ∷ 52 ∷ 56 ∷ 98 ∷ 102 ∷ 100 ∷ 10 ∷ []
 
--- "refused 7"
+-- "refused 7", and a number of two digits, "refused 37"
 abbrev pub refusedSeven : List ℕ
 refusedSeven = 114 ∷ 101 ∷ 102 ∷ 117 ∷ 115 ∷ 101 ∷ 100 ∷ 32 ∷ 55 ∷ 10 ∷ []
+
+abbrev pub refusedThirtySeven : List ℕ
+refusedThirtySeven = 114 ∷ 101 ∷ 102 ∷ 117 ∷ 115 ∷ 101 ∷ 100 ∷ 32 ∷ 51 ∷ 55 ∷ 10 ∷ []
