@@ -79,4 +79,5 @@ returns-2 t c =
 pub +put-decimal-spec : {M : Type 1} → statement M
 +put-decimal-spec =
     close number (λ t. lts.spec (digit-reads.Asked, digit-reads.Learnt, below t, reads.Post) (at t) reads.Post
-    (digit-requires t) (slice-write-out t) (same-length t) (returns t) (put-decimal-requires t) (cast-digit t) (digit-requires-2 t) (slice-write-out-2 t) (add-result t) (same-length-2 t) (returns-2 t))
+    (digit-requires t) (slice-write-out t) (same-length t) (returns t) (put-decimal-requires t) (cast-digit t)
+    (digit-requires-2 t) (slice-write-out-2 t) (add-result t) (same-length-2 t) (returns-2 t))

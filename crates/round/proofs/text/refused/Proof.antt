@@ -34,4 +34,7 @@ returns c =
     refused-is _ _ (p .last .1 .0) (c .before .before .before .good .0 .1) (p .ensures)
 
 pub refused-spec : {M : Type 1} → statement M
-refused-spec = tie.close (tie.spec (λ c. search needs) (λ c. search needs) (λ c. search needs) (λ c. search needs) (λ c. search needs) (λ c. search needs) (λ c. search needs) (λ c. search needs) (λ c. search needs) (λ c. search needs) (λ c. search needs) put-decimal-requires add-end array-write-text-9 add-t20 returns)
+refused-spec =
+    tie.close (tie.spec (λ c. search needs) (λ c. search needs) (λ c. search needs) (λ c. search needs) (λ c. search needs) (λ c. search needs)
+    (λ c. search needs) (λ c. search needs) (λ c. search needs) (λ c. search needs) (λ c. search needs) put-decimal-requires add-end
+    array-write-text-9 add-t20 returns)
