@@ -14,14 +14,14 @@ use Rattle.cipher.specs.Lea.{keyRows}
 use Rattle.cipher.specs.KeySize.{rounds, bookLength, sizeBy, sizeOfKey}
 use Rattle.cipher.specs.Chain.{Chain, chainTests}
 use Rattle.cipher.specs.Book.{bookOf, Book}
-use Rattle.cipher.specs.Answers.{keyTests, keyLengthSize, keySize, roomTests}
+use Rattle.cipher.specs.Answers.{keyLengthSize, keySize, roomTests}
 use Rattle.cipher.specs.declared.size.KeySize.{KeySize}
 use Rattle.cipher.specs.declared.size.SizeFound.the-variants.{Found, Unknown}
 use Rattle.cipher.specs.declared.size.KeySize.the-variants.{Bytes16, Bytes24, Bytes32}
 use Rattle.cipher.proofs.CheckLaws.{Numbered}
 use Rattle.cipher.proofs.ChainTests.{chain-tested}
 use Rattle.cipher.proofs.BookLaw.{book-size, book-made}
-use Rattle.book.specs.Answers.{builtInto}
+use Rattle.book.specs.Answers.{buildTests, builtInto}
 use Rattle.book.proofs.AnswerLaws.{built-done}
 use Rattle.claims.specs.Built.{Built, bookIn, keyRounds}
 
@@ -57,16 +57,16 @@ module _ (key ch out held : List ℕ) (built : Built key ch out held) where
   abbrev book : List ℕ
   book = bookOf (keyRounds key) (keyRows (keySize key) key) ch
 
-  numbered : Numbered (keyTests key ++ (chainTests (keySize key) ch ++ roomTests (bookLength (keySize key)) out))
+  numbered : Numbered (buildTests key ch out bookLength)
   unfolding chainTests
   numbered = (lit< tt, (lit< tt, (lit< tt, (lit< tt, (lit< tt, (lit< tt, tt))))))
 
-  parts : Clear (keyTests key ++ (chainTests (keySize key) ch ++ roomTests (bookLength (keySize key)) out))
-      × (book ++ drop (bookLength (keySize key)) out ≡ held)
+  parts : Clear (buildTests key ch out bookLength) × (book ++ drop (bookLength (keySize key)) out ≡ held)
   unfolding builtInto
   parts =
-      let p = not-refused (λ (r : ℕ × List ℕ). r .0) (λ n. (n, out)) (λ q. refl) (0, book ++ drop (bookLength (keySize key)) out)
-      (keyTests key ++ (chainTests (keySize key) ch ++ roomTests (bookLength (keySize key)) out)) numbered (ap (λ (r : ℕ × List ℕ). r .0) built) in
+      let done : ℕ × List ℕ = (0, book ++ drop (bookLength (keySize key)) out) in
+      let said = ap (λ (r : ℕ × List ℕ). r .0) built in
+      let p = not-refused (λ (r : ℕ × List ℕ). r .0) (λ n. (n, out)) (λ q. refl) done (buildTests key ch out bookLength) numbered said in
       (p .0, ap (λ (r : ℕ × List ℕ). r .1) (sym (p .1) ∙ built))
 
   pub built-size : sizeOfKey (length key) ≡ Found (keySize key)
