@@ -21,7 +21,7 @@ hexDigit x k = glyph (cond (eqb (k % 2) 0) (x / 16 % 16) (x % 16))
 unfoldable pub line : ℕ → ℕ → List ℕ → List ℕ
 line k n b = digits 10 k n ++ ((32 ∷ []) ++ (hexOf b ++ (10 ∷ [])))
 
--- a number in decimal with no zeros in front: of at most k digits and one more; and of any number of digits, of which n has at most n
+-- a number in decimal with no zeros in front, of at most k + 1 digits; and any number n, which has at most n + 1
 unfoldable pub decimalWithin : ℕ → ℕ → List ℕ
 decimalWithin zero n = glyph n ∷ []
 decimalWithin (suc k) n = cond (ltb n 10) (glyph n ∷ []) (decimalWithin k (n / 10) ++ (glyph (n % 10) ∷ []))
