@@ -44,11 +44,16 @@ unpadded t = take (length t - lastByte t) t
 abbrev pub openTests : List ℕ → List ℕ → List ℕ → List ℕ → List ℕ → List (Bool × ℕ)
 openTests key set iv sealed out = keyTests key ++ (setTests set ++ (blockTests iv ++ (textTests sealed ++ roomTests (length sealed) out)))
 
+-- and, after all of these, 11 of the text that is opened
+abbrev pub allOpenTests : List ℕ → List ℕ → List ℕ → List ℕ → List ℕ → List (Bool × ℕ)
+allOpenTests key set iv sealed out =
+    openTests key set iv sealed out ++ paddingTests (openedText (decipher (keySize key) key) (setOf set) iv sealed)
+
 -- opening into a buffer: the number of a refusal or 0, the length of the message, and what the buffer then holds
 unfoldable pub openAnswer : List ℕ → List ℕ → List ℕ → List ℕ → List ℕ → (ℕ × ℕ) × List ℕ
 openAnswer key set iv sealed out =
     let t = openedText (decipher (keySize key) key) (setOf set) iv sealed in
-    first (openTests key set iv sealed out ++ paddingTests t) (λ q. ((q, 0), out))
+    first (allOpenTests key set iv sealed out) (λ q. ((q, 0), out))
     ((0, length (unpadded t)), unpadded t ++ drop (length (unpadded t)) out)
 
 -- ---- checking

@@ -1,5 +1,6 @@
 -- What the builder answers (document 01, "Book" and "Refusals from the input"): the number of a refusal and the buffer as it
 -- was, or 0 and what was asked for, then what the buffer held before.
+use mathlib.Core.Bool.{Bool}
 use mathlib.Core.List.{List, _++_}
 use Prim.Native.Nat.{ℕ, _%_}
 use lib.ListN.{drop}
@@ -12,11 +13,14 @@ use Rattle.cipher.specs.Lengths.{roundLength}
 use Rattle.cipher.specs.Answers.{keyTests, keySize, roomTests}
 use Rattle.cipher.specs.declared.size.KeySize.{KeySize}
 
+-- refusals 1 of the key, 2 to 5 of the chain, and 9 of a buffer that is shorter than what is written
+abbrev pub buildTests : List ℕ → List ℕ → List ℕ → (KeySize → ℕ) → List (Bool × ℕ)
+buildTests key ch out len = keyTests key ++ (chainTests (keySize key) ch ++ roomTests (len (keySize key)) out)
+
 -- the part that a key of size z and a chain make, of len z bytes, into the front of out
 unfoldable pub builtInto : List ℕ → List ℕ → List ℕ → (KeySize → ℕ) → (KeySize → List ℕ) → ℕ × List ℕ
 builtInto key ch out len part =
-    first (keyTests key ++ (chainTests (keySize key) ch ++ roomTests (len (keySize key)) out)) (λ n. (n, out))
-    (0, part (keySize key) ++ drop (len (keySize key)) out)
+    first (buildTests key ch out len) (λ n. (n, out)) (0, part (keySize key) ++ drop (len (keySize key)) out)
 
 -- the book
 abbrev pub buildAnswer : List ℕ → List ℕ → List ℕ → ℕ × List ℕ

@@ -55,9 +55,13 @@ keyLengthSize n = cond (eqb n 16) Bytes16 (cond (eqb n 24) Bytes24 Bytes32)
 abbrev pub keySize : List ℕ → KeySize
 keySize key = keyLengthSize (length key)
 
+-- the refusals of an operation on a key and a block
+abbrev pub keyBlockTests : List ℕ → List ℕ → List (Bool × ℕ)
+keyBlockTests key b = keyTests key ++ blockTests b
+
 -- what `f` makes of a block, where key and block are not refused
 unfoldable pub onBlock : List ℕ → List ℕ → (KeySize → List ℕ) → ℕ × List ℕ
-onBlock key b f = first (keyTests key ++ blockTests b) (λ n. (n, zeros)) (0, f (keySize key))
+onBlock key b f = first (keyBlockTests key b) (λ n. (n, zeros)) (0, f (keySize key))
 
 abbrev pub encipherAnswer : List ℕ → List ℕ → ℕ × List ℕ
 encipherAnswer key b = onBlock key b (λ z. encipher z key b)
@@ -77,5 +81,8 @@ rowAnswer key l = first (keyTests key) (λ n. (n, blank)) (0, getD (keyRows (key
 abbrev pub setChecked : List ℕ → ℕ
 setChecked s = first (setTests s) (λ q. q) 0
 
+abbrev pub chainCheckTests : ℕ → List ℕ → List (Bool × ℕ)
+chainCheckTests n ch = keyLengthTests n ++ chainTests (keyLengthSize n) ch
+
 abbrev pub chainChecked : ℕ → List ℕ → ℕ
-chainChecked n ch = first (keyLengthTests n ++ chainTests (keyLengthSize n) ch) (λ q. q) 0
+chainChecked n ch = first (chainCheckTests n ch) (λ q. q) 0

@@ -12,3 +12,4 @@ pub mod Tables
 pub mod Chain
 pub mod Book
 pub mod Answers
+pub mod Vectors

@@ -1,4 +1,5 @@
 -- The numbers of document 01's refusals ("Refusals from the input" and "Refusals from the state").
+use mathlib.Core.List.{List, [], _∷_}
 use Prim.Native.Nat.{ℕ}
 use Rattle.cipher.specs.declared.refusal.Refusal.{Refusal}
 use Rattle.cipher.specs.declared.refusal.Refusal.the-variants.{KeyLength, ChainLength, NoPermutation, WordRule, MaskByte, BookLength, BlockLength, MessageLength, ShortBuffer, KindByte, BadPadding, SessionFinished, SessionFull}
@@ -31,3 +32,9 @@ outcomeOf (Refused q) = numberOf q
 abbrev pub writtenOf : Written → ℕ × ℕ
 writtenOf (written.Bytes n) = (0, n)
 writtenOf (written.Refused q) = (numberOf q, 0)
+
+-- the order in which refusals are given where several apply: document 01's order of numbers, with the numbers of later requests in
+-- their places, as document 02 says
+abbrev pub refusalOrder : List ℕ
+refusalOrder =
+    34 ∷ 1 ∷ 2 ∷ 3 ∷ 4 ∷ 5 ∷ 37 ∷ 6 ∷ 33 ∷ 7 ∷ 8 ∷ 35 ∷ 30 ∷ 31 ∷ 9 ∷ 32 ∷ 10 ∷ 11 ∷ 36 ∷ 21 ∷ 22 ∷ 38 ∷ 39 ∷ 40 ∷ []

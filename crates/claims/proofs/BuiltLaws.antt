@@ -1,9 +1,9 @@
 -- What an answer 0 of the builder tells: the key has a known size, the chain is valid, and the book in the buffer is that of
--- the key's rows and the chain.
+-- the key's rows and the chain. And when it is given: with every such key and chain, into a buffer with room.
 use mathlib.Core.Path.{_≡_, refl, sym, ap, _∙_, subst}
 use mathlib.Core.Bool.{Bool, true, false, cond, not, _||_}
 use mathlib.Core.List.{List, [], _∷_, _++_}
-use Prim.Native.Nat.{ℕ}
+use Prim.Native.Nat.{ℕ, _≤_}
 use native.Mathlib.Omega.{arith}
 use lib.Dec.{eqb, lit<}
 use lib.ListN.{length, take, drop}
@@ -11,16 +11,18 @@ use lib.Seq.{take-at}
 use Rattle.lists.specs.Refusals.{first}
 use Rattle.lists.proofs.RefusalLaws.{Clear}
 use Rattle.cipher.specs.Lea.{keyRows}
-use Rattle.cipher.specs.KeySize.{bookLength, sizeBy, sizeOfKey}
+use Rattle.cipher.specs.KeySize.{rounds, bookLength, sizeBy, sizeOfKey}
 use Rattle.cipher.specs.Chain.{Chain, chainTests}
 use Rattle.cipher.specs.Book.{bookOf, Book}
-use Rattle.cipher.specs.Answers.{keyTests, keyLengthSize, keySize, roomTests}
+use Rattle.cipher.specs.Answers.{keyLengthSize, keySize, roomTests}
+use Rattle.cipher.specs.declared.size.KeySize.{KeySize}
 use Rattle.cipher.specs.declared.size.SizeFound.the-variants.{Found, Unknown}
 use Rattle.cipher.specs.declared.size.KeySize.the-variants.{Bytes16, Bytes24, Bytes32}
 use Rattle.cipher.proofs.CheckLaws.{Numbered}
 use Rattle.cipher.proofs.ChainTests.{chain-tested}
 use Rattle.cipher.proofs.BookLaw.{book-size, book-made}
-use Rattle.book.specs.Answers.{builtInto}
+use Rattle.book.specs.Answers.{buildTests, builtInto}
+use Rattle.book.proofs.AnswerLaws.{built-done}
 use Rattle.claims.specs.Built.{Built, bookIn, keyRounds}
 
 -- an answer of which the number is 0 is no refusal's
@@ -55,16 +57,16 @@ module _ (key ch out held : List ℕ) (built : Built key ch out held) where
   abbrev book : List ℕ
   book = bookOf (keyRounds key) (keyRows (keySize key) key) ch
 
-  numbered : Numbered (keyTests key ++ (chainTests (keySize key) ch ++ roomTests (bookLength (keySize key)) out))
+  numbered : Numbered (buildTests key ch out bookLength)
   unfolding chainTests
   numbered = (lit< tt, (lit< tt, (lit< tt, (lit< tt, (lit< tt, (lit< tt, tt))))))
 
-  parts : Clear (keyTests key ++ (chainTests (keySize key) ch ++ roomTests (bookLength (keySize key)) out))
-      × (book ++ drop (bookLength (keySize key)) out ≡ held)
+  parts : Clear (buildTests key ch out bookLength) × (book ++ drop (bookLength (keySize key)) out ≡ held)
   unfolding builtInto
   parts =
-      let p = not-refused (λ (r : ℕ × List ℕ). r .0) (λ n. (n, out)) (λ q. refl) (0, book ++ drop (bookLength (keySize key)) out)
-      (keyTests key ++ (chainTests (keySize key) ch ++ roomTests (bookLength (keySize key)) out)) numbered (ap (λ (r : ℕ × List ℕ). r .0) built) in
+      let done : ℕ × List ℕ = (0, book ++ drop (bookLength (keySize key)) out) in
+      let said = ap (λ (r : ℕ × List ℕ). r .0) built in
+      let p = not-refused (λ (r : ℕ × List ℕ). r .0) (λ n. (n, out)) (λ q. refl) done (buildTests key ch out bookLength) numbered said in
       (p .0, ap (λ (r : ℕ × List ℕ). r .1) (sym (p .1) ∙ built))
 
   pub built-size : sizeOfKey (length key) ≡ Found (keySize key)
@@ -80,3 +82,10 @@ module _ (key ch out held : List ℕ) (built : Built key ch out held) where
 
   pub built-book : Book (keyRounds key) (keyRows (keySize key) key) ch (bookIn key held)
   built-book = subst (λ (b : List ℕ). Book (keyRounds key) (keyRows (keySize key) key) ch b) (sym built-is) (book-made (keyRounds key) (keyRows (keySize key) key) ch)
+
+-- with every key of a known size and every valid chain a book is built, into every buffer that has room for it
+pub any-built : (z : KeySize) (key ch out : List ℕ) → sizeOfKey (length key) ≡ Found z → Chain z ch → bookLength z ≤ length out
+    → Built key ch out (bookOf (rounds z) (keyRows z key) ch ++ drop (bookLength z) out)
+any-built z key ch out e v room =
+    let book = bookOf (rounds z) (keyRows z key) ch in
+    sym (built-done key ch out bookLength (λ y. bookOf (rounds y) (keyRows y key) ch) z e v room book refl)

@@ -1,11 +1,15 @@
--- Demand 3 whole: it holds for every key, chain and buffer with which a book is built. (`PremisesMet`: with the identity chain there
--- is a book for every key.)
-use mathlib.Core.List.{List}
+-- Demand 3 whole: it holds for every key, chain and buffer with which a book is built, and a book is built with every key of a known
+-- size, every valid chain and every buffer with room. (`PremisesMet`: the identity chain is valid.)
+use mathlib.Core.List.{List, _++_}
 use Prim.Native.Nat.{ℕ}
+use lib.ListN.{drop}
 use Rattle.lists.specs.Blocks.{Bytes}
+use Rattle.cipher.specs.KeySize.{rounds, bookLength}
+use Rattle.cipher.specs.Lea.{keyRows}
+use Rattle.cipher.specs.Book.{bookOf}
 use Rattle.claims.specs.Built.{Built, bookIn}
-use Rattle.claims.specs.Demand3.{Demand3}
-use Rattle.claims.proofs.BuiltLaws.{built-chain}
+use Rattle.claims.specs.Demand3.{Demand3, Demand3ForAll}
+use Rattle.claims.proofs.BuiltLaws.{built-chain, any-built}
 use Rattle.claims.proofs.PadCalls.{pad-calls}
 use Rattle.claims.proofs.SessionTheorem.{session-built}
 use Rattle.claims.proofs.LentTheorem.{lent-built}
@@ -23,3 +27,9 @@ demand3 key ch out held hk b = record {
   coded = λ m l. pad-calls key ch (built-chain key ch out held b) m l;
   seal = λ m iv hm l li. seal-built key ch out held b hk m iv hm l li;
 }
+
+pub demand3-for-all : Demand3ForAll
+demand3-for-all z key ch out e hk v room =
+    let held = bookOf (rounds z) (keyRows z key) ch ++ drop (bookLength z) out in
+    let b : Built key ch out held = any-built z key ch out e v room in
+    record { held = held; built = b; holds = demand3 key ch out held hk b }

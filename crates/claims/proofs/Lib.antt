@@ -14,4 +14,5 @@ pub mod PadCalls
 pub mod TagTheorem
 pub mod PremisesMet
 pub mod Marked
+pub mod RefusalOrder
 pub mod Demand3Theorem

@@ -1,82 +1,23 @@
--- The marked examples of document 01's "Table of examples", proved together as one table.
+-- The marked examples of document 01's "Table of examples" (specs/Examples), proved together as one table.
 use mathlib.Core.Path.{_≡_, refl, ap, _∙_}
 use mathlib.Core.Bool.{false}
 use mathlib.Core.List.{List, [], _∷_, _++_}
-use Prim.Native.Nat.{ℕ, zero, suc, _+_, _-_, _*_, _≤_}
+use Prim.Native.Nat.{ℕ, _+_, _-_}
 use native.Mathlib.Omega.{arith}
-use lib.ListN.{length, getD, replicate, length-append}
+use lib.ListN.{length, getD, length-append}
 use lib.Seq.{getD-append-add}
 use Rattle.lists.specs.Tabulation.{tab}
 use Rattle.lists.specs.HalfBytes.{halfByte}
 use Rattle.lists.specs.Every.{every}
-use Rattle.cipher.specs.KeySize.{sizeOfKey}
-use Rattle.cipher.specs.Lea.{encipher, decipher}
 use Rattle.cipher.specs.Cmac.{double}
-use Rattle.cipher.specs.Coding.{setOf, placeOf, decode}
-use Rattle.cipher.specs.Tables.{RoundCodings, addSum, carryHeld, addEntry, turnEntry, addTable, turnTable}
-use Rattle.cipher.specs.Chain.{LoneSet}
-use Rattle.cipher.specs.Answers.{badText}
-use Rattle.cipher.specs.declared.size.KeySize.{KeySize}
-use Rattle.cipher.specs.declared.size.KeySize.the-variants.{Bytes16}
-use Rattle.cipher.specs.declared.size.SizeFound.the-variants.{Found}
-use Rattle.cipher.proofs.Vectors.{key16, plain16, cipher16, vector16}
+use Rattle.cipher.specs.Coding.{placeOf, decode}
+use Rattle.cipher.specs.Tables.{addSum, carryHeld, addEntry, turnEntry, addTable, turnTable}
+use Rattle.cipher.proofs.Vectors.{vector16}
 use Rattle.pad.specs.Padding.{paddedForSealing, paddedForTag, fillsBlocks, kindOf}
 use Rattle.pad.proofs.PadLaws.{kind-whole, kind-part, sealing-blocks, tag-blocks}
-use Rattle.archive.specs.Archive.{openedText, lastByte, endsPadded, openAnswer}
+use Rattle.archive.specs.Archive.{lastByte, endsPadded}
 use Rattle.archive.proofs.AnswerLaws.{open-11}
-
--- a round's identity codings, with the mask m j of the carry into half byte j of each sum
-abbrev pub identity : (ℕ → ℕ) → RoundCodings
-identity m = record { before = λ w j v. v; after = λ w j v. v; middle = λ i j v. v; maskIn = λ i j. m j; maskOut = λ i j. m (suc j) }
-
-abbrev pub none : ℕ → ℕ
-none j = 0
-
--- the mask at j = 1 set
-abbrev pub second : ℕ → ℕ
-second zero = 0
-second (suc zero) = 1
-second (suc (suc j)) = 0
-
--- key half bytes 0; and 3 and 5 at j = 0
-abbrev pub noKey : List ℕ
-noKey = replicate 6 0
-
-abbrev pub threeFive : List ℕ
-threeFive = 3 ∷ 5 ∷ replicate 4 0
-
--- the index of (c, p, q), and of (p, q)
-abbrev pub triple : ℕ → ℕ → ℕ → ℕ
-triple c p q = 256 * c + 16 * p + q
-
-abbrev pub pair : ℕ → ℕ → ℕ
-pair p q = 16 * p + q
-
--- opening refuses every sealed text whose opened text ends so by 11
-abbrev pub Refused11 : List ℕ → Type 0
-Refused11 end =
-    (key set iv sealed out front : List ℕ) (z : KeySize) → sizeOfKey (length key) ≡ Found z → LoneSet set → length iv ≡ 16 → badText (length sealed) ≡ false
-    → length sealed ≤ length out → openedText (decipher z key) (setOf set) iv sealed ≡ front ++ end → openAnswer key set iv sealed out ≡ ((11, 0), out)
-
-pub record Marked : Type 0 where
-  pub lea : encipher Bytes16 key16 plain16 ≡ cipher16
-  pub add : addTable (identity none) noKey 0 0 (triple 0 9 8) ≡ 17
-  pub add-mask : addTable (identity second) noKey 0 0 (triple 0 9 8) ≡ 1
-  pub add-top : addTable (identity none) noKey 0 7 (triple 0 9 8) ≡ 1
-  pub add-most : addTable (identity none) noKey 0 1 (triple 1 15 15) ≡ 31
-  pub add-keyed : addTable (identity none) threeFive 0 0 (triple 0 9 8) ≡ 23
-  pub turn-0 : turnTable (identity none) 0 0 (pair 9 8) ≡ 3
-  pub turn-1 : turnTable (identity none) 1 0 (pair 9 8) ≡ 12
-  pub doubling : double (0x80 ∷ replicate 15 0x00) ≡ replicate 15 0x00 ++ (0x87 ∷ [])
-  pub empty-sealing : paddedForSealing [] ≡ replicate 16 0x10
-  pub empty-tag : (paddedForTag [] ≡ 0x80 ∷ replicate 15 0) × (kindOf 0 ≡ 1)
-  pub sealing-16 : (m : List ℕ) → length m ≡ 16 → length (paddedForSealing m) ≡ 32
-  pub tag-16 : (m : List ℕ) → length m ≡ 16 → (length (paddedForTag m) ≡ 16) × (kindOf (length m) ≡ 0)
-  pub sealing-15 : (m : List ℕ) → length m ≡ 15 → length (paddedForSealing m) ≡ 16
-  pub tag-15 : (m : List ℕ) → length m ≡ 15 → (length (paddedForTag m) ≡ 16) × (kindOf (length m) ≡ 1)
-  pub ending-00 : Refused11 (0x00 ∷ [])
-  pub ending-11 : Refused11 (0x11 ∷ [])
-  pub ending-03-02 : Refused11 (0x03 ∷ 0x02 ∷ [])
+use Rattle.claims.specs.Examples.{Refused11, Marked}
 
 -- ---- padding that is none
 

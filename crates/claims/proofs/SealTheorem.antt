@@ -1,5 +1,6 @@
 -- Demand 3's sealed file (document 01, "The model session of demand 3"): what the driver seals of the pad's coding of a message,
--- opened with the same key, set r and IV, gives the message and its length; of all refusals only 9 can be given on this way.
+-- opened with the same key, set r and IV, gives the message and its length; of all refusals only 9 can be given on this way. Its blocks,
+-- decoded by set r, are the padded message enciphered in CBC.
 use mathlib.Core.Path.{_≡_, sym, ap, ap₂, _∙_}
 use mathlib.Core.Bool.{false}
 use mathlib.Core.List.{List, _++_, map, flatten}
@@ -9,9 +10,9 @@ use lib.ListN.{length, drop}
 use Rattle.lists.specs.Blocks.{Bytes, blocks}
 use Rattle.cipher.specs.KeySize.{sizeOfBook}
 use Rattle.cipher.specs.Lea.{keyRows}
-use Rattle.cipher.specs.Lea.{decipher}
-use Rattle.cipher.specs.Cbc.{cbcDeciphered}
-use Rattle.cipher.specs.Coding.{setOf}
+use Rattle.cipher.specs.Lea.{encipher, decipher}
+use Rattle.cipher.specs.Cbc.{cbcEnciphered, cbcDeciphered}
+use Rattle.cipher.specs.Coding.{setOf, decoded}
 use Rattle.cipher.specs.Chain.{messageSet, Chain}
 use Rattle.cipher.specs.Book.{Book}
 use Rattle.cipher.specs.Answers.{keySize, badText}
@@ -32,7 +33,7 @@ use Rattle.claims.specs.Sealing.{codeOf, fileOf, Writes, SealedWay}
 use Rattle.claims.proofs.BuiltLaws.{built-size, built-chain, built-book}
 use Rattle.claims.proofs.LoneSets.{pad-set, archive-set, pad-coded, archive-decoded}
 use Rattle.claims.proofs.BookPasses.{book-found}
-use Rattle.claims.proofs.SealedText.{ends-padded, padding-off, length-file, opened-sealed}
+use Rattle.claims.proofs.SealedText.{ends-padded, padding-off, length-file, enciphered-sealed, opened-sealed}
 
 -- the three calls, for every key, chain and buffer with which a book is built
 module _ (key ch out held : List ℕ) (built : Built key ch out held) (hk : Bytes key) (m iv : List ℕ) (hm : Bytes m) (most : length m ≤ 1048575) (li : length iv ≡ 16) where
@@ -106,5 +107,12 @@ module _ (key ch out held : List ℕ) (built : Built key ch out held) (hk : Byte
         ∙ ap (λ (x : List ℕ). ((0, length x), x ++ drop (length x) o)) message-back;
   }
 
+  blocks-enciphered : map (decoded (setOf s)) (blocks (fileOf u book iv m)) ≡ cbcEnciphered (encipher (keySize key) key) (decoded (setOf s) iv) (blocks padded)
+  blocks-enciphered =
+      ap₂ (λ (d : List ℕ → List ℕ) (c : List ℕ). map d (blocks (sealed book iv c))) (archive-decoded key ch valid) code-is
+      ∙ enciphered-sealed (keySize key) (keyRows (keySize key) key) ch book valid made (key-words (keySize key) key hk) iv padded (length m / 16 + 1) (sealing-blocks m)
+      (sealing-bytes m hm)
+      ∙ ap (λ (d : List ℕ → List ℕ). cbcEnciphered (encipher (keySize key) key) (d iv) (blocks padded)) (sym (archive-decoded key ch valid))
+
   pub seal-built : SealedWay key (padSet ch) (archiveSet key ch) (bookIn key held) iv m
-  seal-built = record { coding = coding-writes; sealing = sealing-writes; opening = opening-writes }
+  seal-built = record { coding = coding-writes; sealing = sealing-writes; opening = opening-writes; enciphered = blocks-enciphered }

@@ -1,5 +1,5 @@
--- What the driver seals of a coded text of whole blocks opens to the text; and of the padding, what the pad appends, the archive takes
--- off. Said of any rows of round keys that are words, and any valid chain.
+-- What the driver seals of a coded text of whole blocks is, decoded, the text enciphered in CBC, and opens to the text; and of the
+-- padding, what the pad appends, the archive takes off. Said of any rows of round keys that are words, and any valid chain.
 use mathlib.Core.Path.{_≡_, refl, sym, ap, ap₂, _∙_}
 use mathlib.Core.Bool.{true}
 use mathlib.Core.List.{List, [], _∷_, map, flatten}
@@ -12,8 +12,8 @@ use Rattle.lists.proofs.TabulationLaws.{tab-ext}
 use Rattle.lists.proofs.EveryLaws.{true-and, all-every}
 use Rattle.lists.proofs.BlockLaws.{Blocks, none, more, block-xor, xor-block-cancel, blocks-flatten, length-flatten, blocks-blocks, flatten-blocks, length-blocks}
 use Rattle.cipher.specs.KeySize.{rounds}
-use Rattle.cipher.specs.Lea.{undoneRounds}
-use Rattle.cipher.specs.Cbc.{cbcDeciphered}
+use Rattle.cipher.specs.Lea.{firstRounds, undoneRounds}
+use Rattle.cipher.specs.Cbc.{cbcEnciphered, cbcDeciphered}
 use Rattle.cipher.specs.Coding.{Set, coded, decoded}
 use Rattle.cipher.specs.Chain.{messageSet, chainSet, Chain}
 use Rattle.cipher.specs.Book.{Book}
@@ -41,7 +41,7 @@ pub padding-off : (m : List ℕ) → unpadded (paddedForSealing m) ≡ m
 unfolding unpadded stripped
 padding-off m = strip-padded m
 
--- ---- the blocks: deciphering in CBC undoes the driver's chain of folds and rounds
+-- ---- the blocks: the driver's chain of folds and rounds, decoded, is enciphering in CBC, and deciphering in CBC undoes it
 
 xor-block-comm : (a b : List ℕ) → xorBlock a b ≡ xorBlock b a
 unfolding xorBlock
@@ -59,6 +59,9 @@ module _ (bk : List ℕ) where
   length-passed x (c ∷ cs) = ap suc (length-passed (pass bk 0 x c) cs)
 
 module _ (z : KeySize) (rows : List (List ℕ)) (ch bk : List ℕ) (v : Chain z ch) (h : Book (rounds z) rows ch bk) (hr : RowsOfWords rows) where
+  abbrev E : List ℕ → List ℕ
+  E = firstRounds rows (rounds z)
+
   abbrev D : List ℕ → List ℕ
   D = undoneRounds rows (rounds z)
 
@@ -68,15 +71,29 @@ module _ (z : KeySize) (rows : List (List ℕ)) (ch bk : List ℕ) (v : Chain z 
   abbrev S : Set
   S = chainSet ch (rounds z)
 
+  -- a block's step on the chain, decoded, is a step of CBC enciphering
+  block-on : (x t : List ℕ) → Block t → decoded S (pass bk 0 x (coded U t)) ≡ E (xorBlock t (decoded S x))
+  block-on x t ht =
+      let X = decoded S x in
+      pass-block z rows ch bk v h x (coded U t)
+      ∙ ap (λ (y : List ℕ). E (xorBlock X y)) (decoded-coded U (v .codings .message) t ht)
+      ∙ ap E (xor-block-comm X t)
+
+  blocks-on : (x : List ℕ) (ts : List (List ℕ)) → Blocks ts
+      → map (decoded S) (passedFrom (pass bk 0) x (map (coded U) ts)) ≡ cbcEnciphered E (decoded S x) ts
+  unfolding cbcEnciphered passedFrom
+  blocks-on x [] none = refl
+  blocks-on x (t ∷ ts) (more ht hs) =
+      let e = block-on x t ht in
+      let later = blocks-on (pass bk 0 x (coded U t)) ts hs ∙ ap (λ (y : List ℕ). cbcEnciphered E y ts) e in
+      ap₂ {C = List (List ℕ)} (λ (a : List ℕ) (l : List (List ℕ)). a ∷ l) e later
+
   block-back : (x t : List ℕ) → Block t → xorBlock (D (decoded S (pass bk 0 x (coded U t)))) (decoded S x) ≡ t
   block-back x t ht =
       let X = decoded S x in
       let hx = block-decoded S (last-permutes z ch v) x in
-      ap (λ (y : List ℕ). xorBlock (D y) X) (pass-block z rows ch bk v h x (coded U t))
-      ∙ ap (λ (y : List ℕ). xorBlock y X)
-      (rounds-undone rows hr (rounds z) (block-xor X (decoded U (coded U t)) (hx .bytes) (block-decoded U (v .codings .message) (coded U t) .bytes))
-      ∙ ap (xorBlock X) (decoded-coded U (v .codings .message) t ht)
-      ∙ xor-block-comm X t)
+      ap (λ (y : List ℕ). xorBlock (D y) X) (block-on x t ht)
+      ∙ ap (λ (y : List ℕ). xorBlock y X) (rounds-undone rows hr (rounds z) (block-xor t X (ht .bytes) (hx .bytes)))
       ∙ xor-block-cancel t X ht
 
   blocks-back : (x : List ℕ) (ts : List (List ℕ)) → Blocks ts
@@ -101,10 +118,16 @@ module _ (z : KeySize) (rows : List (List ℕ)) (ch bk : List ℕ) (v : Chain z 
         ∙ ap (λ (k : ℕ). 16 * k) (length-passed bk iv (map (coded U) (blocks text)) ∙ length-map (blocks text) (coded U) ∙ length-blocks text n e)
         ∙ sym e
 
+    -- the blocks of the file are the chain
+    file-blocks : blocks (sealed bk iv (codedText U text)) ≡ chain
+    file-blocks = ap blocks file-is ∙ blocks-flatten chain (sealed-blocks bk iv (map (coded U) (blocks text)))
+
+    pub enciphered-sealed : Bytes text → map (decoded S) (blocks (sealed bk iv (codedText U text))) ≡ cbcEnciphered E (decoded S iv) (blocks text)
+    enciphered-sealed b = ap (map (decoded S)) file-blocks ∙ blocks-on iv (blocks text) (blocks-blocks text n e b)
+
     pub opened-sealed : Bytes text → openedText D S iv (sealed bk iv (codedText U text)) ≡ text
     unfolding openedText
     opened-sealed b =
-        ap (λ (f : List ℕ). flatten (cbcDeciphered D (decoded S iv) (map (decoded S) (blocks f)))) file-is
-        ∙ ap (λ (bs : List (List ℕ)). flatten (cbcDeciphered D (decoded S iv) (map (decoded S) bs))) (blocks-flatten chain (sealed-blocks bk iv (map (coded U) (blocks text))))
+        ap (λ (bs : List (List ℕ)). flatten (cbcDeciphered D (decoded S iv) (map (decoded S) bs))) file-blocks
         ∙ ap flatten (blocks-back iv (blocks text) (blocks-blocks text n e b))
         ∙ flatten-blocks text n e

@@ -7,17 +7,19 @@ use Prim.Native.Nat.{ℕ, _≤_}
 use lib.ListN.{length, take}
 use Rattle.lists.specs.Blocks.{Bytes, blocks, blockLength}
 use Rattle.cipher.specs.Lengths.{longestMessage}
-use Rattle.cipher.specs.Lea.{keyRows}
-use Rattle.cipher.specs.Lea.{firstRounds, encipher}
+use Rattle.cipher.specs.Lea.{keyRows, firstRounds, encipher}
 use Rattle.cipher.specs.Coding.{setOf, decoded}
-use Rattle.cipher.specs.Chain.{messageSet, chainSet}
+use Rattle.cipher.specs.Chain.{messageSet, chainSet, Chain}
 use Rattle.cipher.specs.Answers.{keySize}
+use Rattle.cipher.specs.KeySize.{sizeOfKey, bookLength}
+use Rattle.cipher.specs.declared.size.KeySize.{KeySize}
+use Rattle.cipher.specs.declared.size.SizeFound.the-variants.{Found}
 use Rattle.pad.specs.Answers.{tagAnswer}
 use Rattle.driver.specs.Driver.{runRoundsAnswer, begunOver}
 use Rattle.driver.specs.declared.session.Session.{Session}
 use Rattle.claims.specs.Model.{Call, Answer}
 use Rattle.claims.specs.Calls.{driverAnswers, Lent, modelAnswers, callsOf, messageCalls, acceptedCalls}
-use Rattle.claims.specs.Built.{keyRounds, padSet, archiveSet}
+use Rattle.claims.specs.Built.{Built, bookIn, keyRounds, padSet, archiveSet}
 use Rattle.claims.specs.Tags.{OneTag}
 use Rattle.claims.specs.Sealing.{SealedWay}
 
@@ -53,3 +55,14 @@ pub record Demand3 (key ch bk : List ℕ) : Type 0 where
       → callsOf k (blocks (take n held)) ≡ callsUnder ch m
   -- the sealed file opens to the message
   pub seal : (m iv : List ℕ) → Bytes m → length m ≤ longestMessage → length iv ≡ blockLength → SealedWay key (padSet ch) (archiveSet key ch) bk iv m
+
+-- what is built for a key and a chain into a buffer: building answers 0, the buffer then holds a book, and demand 3 holds of it
+pub record BuiltDemand3 (key ch out : List ℕ) : Type 0 where
+  pub held : List ℕ
+  pub built : Built key ch out held
+  pub holds : Demand3 key ch (bookIn key held)
+
+-- demand 3 for any key and any chain: every key of bytes of a known size, every valid chain for it, every buffer with room for a book
+abbrev pub Demand3ForAll : Type 0
+Demand3ForAll =
+    (z : KeySize) (key ch out : List ℕ) → sizeOfKey (length key) ≡ Found z → Bytes key → Chain z ch → bookLength z ≤ length out → BuiltDemand3 key ch out

@@ -5,3 +5,5 @@ pub mod Sealing
 pub mod Tags
 pub mod Identity
 pub mod Demand3
+pub mod Examples
+pub mod Order

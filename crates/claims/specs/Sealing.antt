@@ -1,10 +1,14 @@
 -- The way of a sealed file (document 01, "The model session of demand 3", its last paragraph but one): a message is coded for
 -- sealing under U, sealed by the driver from an IV, and opened; what the three calls are to answer.
 use mathlib.Core.Path.{_≡_}
-use mathlib.Core.List.{List, _++_}
+use mathlib.Core.List.{List, _++_, map}
 use Prim.Native.Nat.{ℕ, _≤_, _<_}
 use lib.ListN.{length, drop}
-use Rattle.cipher.specs.Coding.{setOf}
+use Rattle.lists.specs.Blocks.{blocks}
+use Rattle.cipher.specs.Lea.{encipher}
+use Rattle.cipher.specs.Cbc.{cbcEnciphered}
+use Rattle.cipher.specs.Coding.{setOf, decoded}
+use Rattle.cipher.specs.Answers.{keySize}
 use Rattle.pad.specs.Padding.{paddedForSealing, codedText}
 use Rattle.pad.specs.Answers.{sealingAnswer}
 use Rattle.driver.specs.Driver.{sealed, sealAnswer}
@@ -23,8 +27,10 @@ pub record Writes (answer : List ℕ → (ℕ × ℕ) × List ℕ) (room : ℕ) 
   pub short : (out : List ℕ) → length out < room → answer out ≡ ((9, 0), out)
   pub written : (out : List ℕ) → room ≤ length out → answer out ≡ ((0, length x), x ++ drop (length x) out)
 
--- none of the three calls gives another refusal than 9, and opening gives back the message and its length
+-- none of the three calls gives another refusal than 9, and opening gives back the message and its length. The sealed file's blocks,
+-- decoded by the set s, are the padded message's enciphered under the key in CBC (SP 800-38A) from the decoded IV
 pub record SealedWay (key u s bk iv m : List ℕ) : Type 0 where
   pub coding : Writes (sealingAnswer u m) (length (codeOf u m)) (codeOf u m)
   pub sealing : Writes (sealAnswer bk iv (codeOf u m)) (length (fileOf u bk iv m)) (fileOf u bk iv m)
   pub opening : Writes (openAnswer key s iv (fileOf u bk iv m)) (length (fileOf u bk iv m)) m
+  pub enciphered : map (decoded (setOf s)) (blocks (fileOf u bk iv m)) ≡ cbcEnciphered (encipher (keySize key) key) (decoded (setOf s) iv) (blocks (paddedForSealing m))

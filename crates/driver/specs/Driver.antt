@@ -32,13 +32,19 @@ unfoldable pub roundsOf : List ℕ → ℕ
 roundsOf bk = (length bk - roundsStart) / roundLength
 
 -- a block by the tables of one round
+abbrev pub runRoundTests : List ℕ → List ℕ → List (Bool × ℕ)
+runRoundTests t b = tablesTests t ++ blockTests b
+
 unfoldable pub runRoundAnswer : List ℕ → List ℕ → ℕ × List ℕ
-runRoundAnswer t b = first (tablesTests t ++ blockTests b) (λ q. (q, zeros)) (0, tableRound t b)
+runRoundAnswer t b = first (runRoundTests t b) (λ q. (q, zeros)) (0, tableRound t b)
 
 -- a block by the first n rounds of a book, all of them where n is more
+abbrev pub runRoundsTests : List ℕ → List ℕ → List (Bool × ℕ)
+runRoundsTests bk b = bookTests bk ++ blockTests b
+
 unfoldable pub runRoundsAnswer : List ℕ → ℕ → List ℕ → ℕ × List ℕ
 runRoundsAnswer bk n b =
-    first (bookTests bk ++ blockTests b) (λ q. (q, zeros)) (0, tableRounds (roundAt bk) (cond (leb n (roundsOf bk)) n (roundsOf bk)) b)
+    first (runRoundsTests bk b) (λ q. (q, zeros)) (0, tableRounds (roundAt bk) (cond (leb n (roundsOf bk)) n (roundsOf bk)) b)
 
 -- ---- sealing
 
@@ -106,12 +112,18 @@ abbrev pub fullTests : Session → List (Bool × ℕ)
 fullTests s = (leb 65535 (s .taken), 22) ∷ []
 
 -- a block call: the block is folded in by group one
+abbrev pub blockCallTests : List ℕ → List ℕ → Session → List (Bool × ℕ)
+blockCallTests bk m s = bookTests bk ++ (blockTests m ++ (finishedTests s ++ fullTests s))
+
 unfoldable pub blockAnswer : List ℕ → List ℕ → Session → ℕ × Session
 blockAnswer bk m s =
-    first (bookTests bk ++ (blockTests m ++ (finishedTests s ++ fullTests s))) (λ q. (q, s)) (0, moved s (pass bk 0 (s .block) m))
+    first (blockCallTests bk m s) (λ q. (q, s)) (0, moved s (pass bk 0 (s .block) m))
 
 -- a last call: the block is folded in by group two for kind 0 and by group three for kind 1, and the result is the tag
+abbrev pub lastCallTests : List ℕ → List ℕ → ℕ → Session → List (Bool × ℕ)
+lastCallTests bk m k s = bookTests bk ++ (blockTests m ++ (kindTests k ++ finishedTests s))
+
 unfoldable pub lastAnswer : List ℕ → List ℕ → ℕ → Session → (ℕ × List ℕ) × Session
 lastAnswer bk m k s =
-    first (bookTests bk ++ (blockTests m ++ (kindTests k ++ finishedTests s))) (λ q. ((q, zeros), s))
+    first (lastCallTests bk m k s) (λ q. ((q, zeros), s))
     ((0, pass bk (suc k) (s .block) m), closed s)

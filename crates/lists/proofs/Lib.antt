@@ -5,4 +5,5 @@ pub mod BlockLaws
 pub mod HalfByteLaws
 pub mod XorLaws
 pub mod RefusalLaws
+pub mod OrderLaws
 pub mod EveryLaws

@@ -5,3 +5,4 @@ pub mod AnswerLaws
 pub mod RoundMeaning
 pub mod LaterBytes
 pub mod Example
+pub mod RefusalOrder

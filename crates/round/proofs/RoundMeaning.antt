@@ -20,7 +20,7 @@ use Rattle.cipher.proofs.RoundsLaw.{rounds-law}
 use Rattle.cipher.proofs.ChainTests.{valid-round}
 use Rattle.cipher.proofs.BookLaw.{round-made}
 use Rattle.round.specs.Text.{line}
-use Rattle.round.specs.Round.{tablesOf, openedAfter, twoLines, lengthByte, keyPart, afterKey, chainPart, blockPart, printed, printedAfter}
+use Rattle.round.specs.Round.{tablesOf, openedAfter, twoLines, lengthByte, keyPart, afterKey, chainPart, blockPart, printed, printedAfter, Input, plainBlock}
 use Rattle.round.proofs.AnswerLaws.{printed-after, on-run}
 
 module _ (z : KeySize) (key ch : List ℕ) (v : Chain z ch) where
@@ -43,17 +43,7 @@ module _ (z : KeySize) (key ch : List ℕ) (v : Chain z ch) where
       let m = rounds-more z in
       ap₂ (λ (x y : List ℕ). line 1 1 x ++ line 2 (rounds z) y) (opened-lea b 1 (omega arith)) (opened-lea b (rounds z) (le-refl (rounds z)))
 
--- an input that is not refused: length byte and key of size z, a valid chain, 16 bytes more
-pub record Input (z : KeySize) (i : List ℕ) : Type 0 where
-  pub size : sizeOfKey (lengthByte i) ≡ Found z
-  pub key : length (keyPart (lengthByte i) i) ≡ lengthByte i
-  pub chain : Chain z (chainPart z (afterKey (lengthByte i) i))
-  pub block : 16 ≤ length (drop (chainLength z) (afterKey (lengthByte i) i))
-
--- what is printed for it is LEA's first round, and all of LEA, on the block that the coded block is by set 0
-abbrev pub plainBlock : KeySize → List ℕ → List ℕ
-plainBlock z i = decoded (chainSet (chainPart z (afterKey (lengthByte i) i)) 0) (blockPart z (afterKey (lengthByte i) i))
-
+-- what is printed for an input that is not refused
 pub printed-lea : (z : KeySize) (i : List ℕ) → Input z i
     → printed i
     ≡ line 1 1 (firstRounds (keyRows z (keyPart (lengthByte i) i)) 1 (plainBlock z i))

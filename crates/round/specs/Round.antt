@@ -3,7 +3,7 @@
 use mathlib.Core.Path.{_≡_}
 use mathlib.Core.Bool.{Bool, not}
 use mathlib.Core.List.{List, [], _∷_, _++_}
-use Prim.Native.Nat.{ℕ, suc, _+_, _-_}
+use Prim.Native.Nat.{ℕ, suc, _+_, _-_, _≤_}
 use lib.Dec.{eqb}
 use lib.ListN.{length, getD, take, drop}
 use Rattle.lists.specs.Blocks.{blockLength}
@@ -72,6 +72,13 @@ keyWhole n key = (not (eqb (length key) n), 1) ∷ []
 abbrev pub restTests : KeySize → List ℕ → List ℕ → List (Bool × ℕ)
 restTests z ch b = chainTests z ch ++ blockTests b
 
+-- all of them, for an input
+abbrev pub inputTests : List ℕ → List (Bool × ℕ)
+inputTests i =
+    let n = lengthByte i in
+    let z = keyLengthSize n in
+    keyLengthTests n ++ (keyWhole n (keyPart n i) ++ restTests z (chainPart z (afterKey n i)) (blockPart z (afterKey n i)))
+
 -- the refusal whose number is the lowest, or the two lines
 unfoldable pub printed : List ℕ → List ℕ
 printed i =
@@ -80,7 +87,7 @@ printed i =
     let key = keyPart n i in
     let ch = chainPart z (afterKey n i) in
     let b = blockPart z (afterKey n i) in
-    first (keyLengthTests n ++ (keyWhole n key ++ restTests z ch b)) refusedText (twoLines z key ch b)
+    first (inputTests i) refusedText (twoLines z key ch b)
 
 -- the same where length byte and key are taken, from a key of size z, the chain's bytes and what is after them
 unfoldable pub printedOn : KeySize → List ℕ → List ℕ → List ℕ → List ℕ
@@ -89,6 +96,17 @@ printedOn z key ch s = first (restTests z ch (take blockLength s)) refusedText (
 -- and from a key and what is after it
 unfoldable pub printedAfter : KeySize → List ℕ → List ℕ → List ℕ
 printedAfter z key s = printedOn z key (chainPart z s) (drop (chainLength z) s)
+
+-- an input that is not refused: length byte and key of size z, a valid chain, 16 bytes more
+pub record Input (z : KeySize) (i : List ℕ) : Type 0 where
+  pub size : sizeOfKey (lengthByte i) ≡ Found z
+  pub key : length (keyPart (lengthByte i) i) ≡ lengthByte i
+  pub chain : Chain z (chainPart z (afterKey (lengthByte i) i))
+  pub block : blockLength ≤ length (drop (chainLength z) (afterKey (lengthByte i) i))
+
+-- the block that its coded block is by set 0
+abbrev pub plainBlock : KeySize → List ℕ → List ℕ
+plainBlock z i = decoded (chainSet (chainPart z (afterKey (lengthByte i) i)) 0) (blockPart z (afterKey (lengthByte i) i))
 
 -- how many bytes the program reads where the first is x
 abbrev pub wantedOf : SizeFound → ℕ

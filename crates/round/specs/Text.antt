@@ -2,8 +2,8 @@
 -- number, a space and a block in lower-case hex. `digits` is the kit's: the last k digits of a number, in lower case.
 use mathlib.Core.Bool.{cond}
 use mathlib.Core.List.{List, [], _∷_, _++_}
-use Prim.Native.Nat.{ℕ, _-_, _/_, _%_}
-use lib.Dec.{eqb}
+use Prim.Native.Nat.{ℕ, zero, suc, _-_, _/_, _%_}
+use lib.Dec.{eqb, ltb}
 use lib.ListN.{length, getD, replicate}
 use Rattle.lists.specs.Tabulation.{chunks}
 use Rattle.io.specs.Digits.{glyph, digits}
@@ -21,12 +21,20 @@ hexDigit x k = glyph (cond (eqb (k % 2) 0) (x / 16 % 16) (x % 16))
 unfoldable pub line : ℕ → ℕ → List ℕ → List ℕ
 line k n b = digits 10 k n ++ ((32 ∷ []) ++ (hexOf b ++ (10 ∷ [])))
 
--- "refused ", a number of one digit, a newline
+-- a number in decimal with no zeros in front, of at most k + 1 digits; and any number n, which has at most n + 1
+unfoldable pub decimalWithin : ℕ → ℕ → List ℕ
+decimalWithin zero n = glyph n ∷ []
+decimalWithin (suc k) n = cond (ltb n 10) (glyph n ∷ []) (decimalWithin k (n / 10) ++ (glyph (n % 10) ∷ []))
+
+unfoldable pub decimal : ℕ → List ℕ
+decimal n = decimalWithin n n
+
+-- "refused ", a number in decimal, a newline
 abbrev pub refusedWord : List ℕ
 refusedWord = 114 ∷ 101 ∷ 102 ∷ 117 ∷ 115 ∷ 101 ∷ 100 ∷ 32 ∷ []
 
 unfoldable pub refusedText : ℕ → List ℕ
-refusedText n = refusedWord ++ (digits 10 1 n ++ (10 ∷ []))
+refusedText n = refusedWord ++ (decimal n ++ (10 ∷ []))
 
 -- a report as its length and its bytes; and what they must be for the text t: t, with zeros after it
 abbrev pub reportTold : Report → ℕ × List ℕ

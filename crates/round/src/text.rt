@@ -1,10 +1,10 @@
 // What the round program prints: two lines, or a refusal.
 ghost use mathlib.Core.Path.{_≡_};
 ghost use mathlib.Core.List.{_++_};
-ghost use Prim.Native.Nat.{_<_};
-ghost use lib.ListN.{length};
+ghost use Prim.Native.Nat.{_≤_, _<_};
+ghost use lib.ListN.{length, drop};
 ghost use Rattle.io.specs.Digits.{glyph};
-ghost use Rattle.round.specs.Text.{hexDigit, hexOf, line, refusedText, shown, reportTold};
+ghost use Rattle.round.specs.Text.{hexDigit, hexOf, line, decimal, refusedText, shown, reportTold};
 
 // The bytes of two lines, the longest text: 2 and 3 in front of a block, 32 for it, a newline.
 const LONGEST: usize = 2 + 3 + 2 * (32 + 1);
@@ -65,7 +65,21 @@ pub fn two_lines(first: [u8; 16], r: usize, last: [u8; 16]) -> Report
     }
 }
 
-// A refusal, by its number, which is below 10 for all that the program refuses.
+// A number in decimal into the front of a part, and how many digits it has.
+fn put_decimal(n: u32, out: &mut [u8]) -> usize
+    requires { ⌜ length (decimal n) ≤ length (now out) ⌝ }
+    ensures { λ r. ⌜ (r ≡ length (decimal n)) × (now (out .exit) ≡ decimal n ++ drop r (now (out .entry))) ⌝ }
+{
+    if n < 10 {
+        out[0] = digit(n as usize);
+        return 1;
+    }
+    let k = put_decimal(n / 10, out);
+    out[k] = digit((n % 10) as usize);
+    k + 1
+}
+
+// A refusal, by its number.
 pub fn refused(n: u32) -> Report
     ensures { λ a. ⌜ reportTold a ≡ shown (refusedText n) ⌝ }
 {
@@ -78,7 +92,10 @@ pub fn refused(n: u32) -> Report
     text[5] = b'e';
     text[6] = b'd';
     text[7] = b' ';
-    text[8] = digit((n % 10) as usize);
-    text[9] = b'\n';
-    Report { text, length: 10 }
+    let end = 8 + put_decimal(n, &mut text[8..LONGEST]);
+    text[end] = b'\n';
+    Report {
+        text,
+        length: end + 1,
+    }
 }

@@ -45,4 +45,6 @@ returns-2 c =
     )
 
 pub wanted-spec : {M : Type 1} → statement M
-wanted-spec = tie.close (tie.spec (λ c κs. search needs) (λ c κs. search needs) (λ c. search needs) (λ c. search needs) returns (λ c κs. search needs) add-result (λ c κs. search needs) add-result-2 add-result-3 returns-2)
+wanted-spec =
+    tie.close (tie.spec (λ c κs. search needs) (λ c κs. search needs) (λ c. search needs) (λ c. search needs) returns (λ c κs. search needs)
+    add-result (λ c κs. search needs) add-result-2 add-result-3 returns-2)

@@ -13,16 +13,19 @@ use Rattle.round.proofs.report.on_chain.Tie as tie
 returns : tie.Need-returns
 returns c =
     let k = c .before .before in
-    c .refused .ensures ∙ ap shown (sym (on-chain-refused (k .before .before .before .before .before .args .size) _ _ _ _ (k .number .ensures ∙ k .before .check-sized .ensures) (c .before .if1 .taken)))
+    let e = k .before .before .before .before .before in
+    let told = k .number .ensures ∙ k .before .check-sized .ensures in
+    c .refused .ensures ∙ ap shown (sym (on-chain-refused (e .args .size) _ _ _ _ told (c .before .if1 .taken)))
 
 returns-2 : tie.Need-returns-2
 returns-2 c =
     let t = c .before .before in
     let k = t .before .before in
     let e = k .before .before .before .before .before in
+    let valid = chain-checked (e .args .size) _ (sym (k .before .check-sized .ensures) ∙ sym (k .number .ensures) ∙ t .before .if1 .left) in
     c .refused2 .ensures
     ∙ ap (λ (n : ℕ). shown (refusedText n)) (c .before .number2 .ensures)
-    ∙ ap shown (sym (on-block-short (e .args .size) _ _ _ (chain-checked (e .args .size) _ (sym (k .before .check-sized .ensures) ∙ sym (k .number .ensures) ∙ t .before .if1 .left)) (t .if2 .taken)))
+    ∙ ap shown (sym (on-block-short (e .args .size) _ _ _ valid (t .if2 .taken)))
 
 run-requires : tie.Need-run-requires
 run-requires c κs =
@@ -36,9 +39,12 @@ returns-3 c =
     let t = c .before .before in
     let k = t .before .before in
     let e = k .before .before .before .before .before in
+    let valid = chain-checked (e .args .size) _ (sym (k .before .check-sized .ensures) ∙ sym (k .number .ensures) ∙ t .before .if1 .left) in
     c .run .ensures
     ∙ ap (λ (b : List ℕ). shown (twoLines (e .args .size) (e .args .key .now) (e .args .chain .now) b)) (c .before .block-at .ensures)
-    ∙ ap shown (sym (on-run (e .args .size) _ _ _ (chain-checked (e .args .size) _ (sym (k .before .check-sized .ensures) ∙ sym (k .number .ensures) ∙ t .before .if1 .left)) (t .if2 .left)))
+    ∙ ap shown (sym (on-run (e .args .size) _ _ _ valid (t .if2 .left)))
 
 pub on-chain-spec : {M : Type 1} → statement M
-on-chain-spec = tie.close (tie.spec (λ c κs. search needs) (λ c κs. search needs) (λ c κs. search needs) returns (λ c κs. search needs) (λ c κs. search needs) returns-2 (λ c κs. search needs) run-requires returns-3)
+on-chain-spec =
+    tie.close (tie.spec (λ c κs. search needs) (λ c κs. search needs) (λ c κs. search needs) returns (λ c κs. search needs) (λ c κs. search needs)
+    returns-2 (λ c κs. search needs) run-requires returns-3)

@@ -23,4 +23,6 @@ returns-2 c =
     c .on-chain .ensures ∙ ap shown (after-is (e .args .size) (e .args .key .now) (e .args .rest .now) _ (t .before .chain-len .ensures))
 
 pub on-rest-spec : {M : Type 1} → statement M
-on-rest-spec = tie.close (tie.spec (λ c κs. search needs) (λ c κs. search needs) (λ c κs. search needs) returns (λ c. search needs) (λ c. search needs) (λ c. search needs) (λ c. search needs) (λ c. search needs) (λ c. search needs) (λ c κs. search needs) returns-2)
+on-rest-spec =
+    tie.close (tie.spec (λ c κs. search needs) (λ c κs. search needs) (λ c κs. search needs) returns (λ c. search needs) (λ c. search needs)
+    (λ c. search needs) (λ c. search needs) (λ c. search needs) (λ c. search needs) (λ c κs. search needs) returns-2)

@@ -23,4 +23,6 @@ returns c =
     opened-is (e .args .size) _ (e .args .n) (e .pre .0) (e .pre .1) _ (i .invert .ensures) _ _ (c .code-block .ensures)
 
 pub opened-spec : {M : Type 1} → statement M
-opened-spec = tie.close (tie.spec (λ c. search needs) (λ c. search needs) (λ c. search needs) (λ c. search needs) (λ c. search needs) (λ c. search needs) invert-requires (λ c. search needs) code-block-requires returns)
+opened-spec =
+    tie.close (tie.spec (λ c. search needs) (λ c. search needs) (λ c. search needs) (λ c. search needs) (λ c. search needs) (λ c. search needs)
+    invert-requires (λ c. search needs) code-block-requires returns)

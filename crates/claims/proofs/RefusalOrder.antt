@@ -1,0 +1,47 @@
+-- Lowest number first: the tests of each operation follow document 01's order of refusals (specs/Order), as their numbers show.
+use mathlib.Core.Path.{_≡_, refl}
+use mathlib.Core.Bool.{Bool, true}
+use mathlib.Core.List.{List}
+use Prim.Native.Nat.{ℕ}
+use Rattle.lists.specs.Refusals.{standsIn, standsBefore, noneBefore, follows}
+use Rattle.lists.proofs.OrderLaws.{goes-by}
+use Rattle.cipher.specs.KeySize.{bookLength}
+use Rattle.cipher.specs.Lengths.{roundLength}
+use Rattle.cipher.specs.Refusal.{refusalOrder}
+use Rattle.cipher.specs.Chain.{setTests, chainTests}
+use Rattle.cipher.specs.Answers.{keyTests, keyBlockTests, chainCheckTests}
+use Rattle.book.specs.Answers.{buildTests}
+use Rattle.pad.specs.Answers.{codingTests}
+use Rattle.driver.specs.Driver.{bookTests, runRoundTests, runRoundsTests, sealTests, blockCallTests, lastCallTests}
+use Rattle.archive.specs.Archive.{allOpenTests, checkTests}
+use Rattle.claims.specs.Model.{Call, blockCall, lastCall, State, refusals}
+use Rattle.claims.specs.Order.{InOrder, Order}
+
+in-order : (ts : List (Bool × ℕ)) → follows refusalOrder ts ≡ true → InOrder ts
+in-order ts f = goes-by refusalOrder ts f
+
+model-order : (c : Call) (s : State) → follows refusalOrder (refusals c s) ≡ true
+unfolding follows standsIn standsBefore noneBefore refusals
+model-order (blockCall m) s = refl
+model-order (lastCall m k) s = refl
+
+pub order : Order
+unfolding follows standsIn standsBefore noneBefore setTests chainTests codingTests
+order = record {
+  on-block = λ key b. in-order (keyBlockTests key b) refl;
+  round-keys = λ key. in-order (keyTests key) refl;
+  check-set = λ s. in-order (setTests s) refl;
+  check-chain = λ n ch. in-order (chainCheckTests n ch) refl;
+  building = λ key ch out. in-order (buildTests key ch out bookLength) refl;
+  build-round = λ key ch out. in-order (buildTests key ch out (λ z. roundLength)) refl;
+  code = λ u n total room. in-order (codingTests u n total room) refl;
+  run-round = λ t b. in-order (runRoundTests t b) refl;
+  run-rounds = λ bk b. in-order (runRoundsTests bk b) refl;
+  sealing = λ bk iv coded out. in-order (sealTests bk iv coded out) refl;
+  beginning = λ bk. in-order (bookTests bk) refl;
+  block-call = λ bk m s. in-order (blockCallTests bk m s) refl;
+  last-call = λ bk m k s. in-order (lastCallTests bk m k s) refl;
+  opening = λ key set iv sealed out. in-order (allOpenTests key set iv sealed out) refl;
+  checking = λ key set message tag. in-order (checkTests key set message tag) refl;
+  model = λ c s. in-order (refusals c s) (model-order c s);
+}

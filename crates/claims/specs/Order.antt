@@ -1,0 +1,47 @@
+-- Lowest number first (document 01, "Refusals from the input" and "from the state"): the refusals of every operation go by one order
+-- of the numbers.
+use mathlib.Core.Bool.{Bool}
+use mathlib.Core.List.{List}
+use Prim.Native.Nat.{ℕ}
+use Rattle.lists.specs.Refusals.{GoesBy}
+use Rattle.cipher.specs.KeySize.{bookLength}
+use Rattle.cipher.specs.Lengths.{roundLength}
+use Rattle.cipher.specs.Refusal.{refusalOrder}
+use Rattle.cipher.specs.Chain.{setTests}
+use Rattle.cipher.specs.Answers.{keyTests, keyBlockTests, chainCheckTests}
+use Rattle.book.specs.Answers.{buildTests}
+use Rattle.pad.specs.Answers.{codingTests}
+use Rattle.driver.specs.Driver.{bookTests, runRoundTests, runRoundsTests, sealTests, blockCallTests, lastCallTests}
+use Rattle.driver.specs.declared.session.Session.{Session}
+use Rattle.archive.specs.Archive.{allOpenTests, checkTests}
+use Rattle.claims.specs.Model.{Call, State, refusals}
+
+-- of the numbers whose conditions hold, the one that stands first in the order is given, and none where no condition holds
+abbrev pub InOrder : List (Bool × ℕ) → Type 1
+InOrder ts = GoesBy refusalOrder ts
+
+-- each operation, by the list of tests that the definition of its answer names
+pub record Order : Type 1 where
+  -- LEA: enciphering, deciphering and the first rounds; and the round keys
+  pub on-block : (key b : List ℕ) → InOrder (keyBlockTests key b)
+  pub round-keys : (key : List ℕ) → InOrder (keyTests key)
+  -- the checks of a lone set, and of a chain for a key of n bytes
+  pub check-set : (s : List ℕ) → InOrder (setTests s)
+  pub check-chain : (n : ℕ) (ch : List ℕ) → InOrder (chainCheckTests n ch)
+  -- the builder
+  pub building : (key ch out : List ℕ) → InOrder (buildTests key ch out bookLength)
+  pub build-round : (key ch out : List ℕ) → InOrder (buildTests key ch out (λ z. roundLength))
+  -- the pad, for sealing and for a tag: a message of n bytes, of which `total` are written into a buffer of `room` bytes
+  pub code : (u : List ℕ) (n total room : ℕ) → InOrder (codingTests u n total room)
+  -- the driver
+  pub run-round : (t b : List ℕ) → InOrder (runRoundTests t b)
+  pub run-rounds : (bk b : List ℕ) → InOrder (runRoundsTests bk b)
+  pub sealing : (bk iv coded out : List ℕ) → InOrder (sealTests bk iv coded out)
+  pub beginning : (bk : List ℕ) → InOrder (bookTests bk)
+  pub block-call : (bk m : List ℕ) (s : Session) → InOrder (blockCallTests bk m s)
+  pub last-call : (bk m : List ℕ) (k : ℕ) (s : Session) → InOrder (lastCallTests bk m k s)
+  -- the archive
+  pub opening : (key set iv sealed out : List ℕ) → InOrder (allOpenTests key set iv sealed out)
+  pub checking : (key set message tag : List ℕ) → InOrder (checkTests key set message tag)
+  -- the model session
+  pub model : (c : Call) (s : State) → InOrder (refusals c s)
