@@ -9,7 +9,7 @@ use lib.Bits.{bitXor, xor-lt, xor-comm}
 use lib.Dec.{lit<}
 use lib.ListN.{length, getD, take, drop, length-append, length-drop, List·getD-eq-default}
 use lib.Seq.{getD-drop, drop-at, length-take-le}
-use Rattle.lists.specs.Tabulation.{tab, chunks}
+use Rattle.lists.specs.Tabulation.{tab, chunks, tables}
 use Rattle.lists.specs.Blocks.{Below}
 use Rattle.lists.specs.HalfBytes.{halfByte}
 use Rattle.lists.proofs.TabulationLaws.{length-tab, getD-tab, tab-ext}
@@ -20,9 +20,10 @@ use Rattle.lists.proofs.XorLaws.{xor-assoc}
 use Rattle.cipher.specs.Coding.{FirstPermutations, codingAt, setOf, decode, inverted, blockHalf}
 use Rattle.cipher.specs.Tables.{addEntry, addSum, addTable, turned, upper, lower, turnTable, foldTable}
 use Rattle.cipher.specs.KeySize.{rounds}
+use Rattle.cipher.specs.Lengths.{addLength, turnLength, foldLength}
 use Rattle.cipher.specs.Chain.{Chain, roundBytes, roundCodings}
 use Rattle.cipher.specs.declared.size.KeySize.{KeySize}
-use Rattle.cipher.specs.Book.{addPart, turnPart, roundPart, foldPart, groupPart}
+use Rattle.cipher.specs.Book.{twoKinds, roundPart, groupPart}
 use Rattle.cipher.proofs.Permutation.{decode-lt}
 use Rattle.cipher.proofs.InverseLaws.{length-inverted, inverted-at}
 use Rattle.cipher.proofs.TableLaws.{add-rows, turn-rows, fold-rows}
@@ -125,8 +126,8 @@ module _ (B R : List ℕ) (before : FirstPermutations 32 B) (p i j k l m m' : �
       same)
 
 module _ (B A R K : List ℕ) (ready : RoundReady B A R) where
-  add-is : (p : ℕ) → p < 24 → madeAdd (inverted 32 B) R K p ≡ addPart (codingsOf B A R) K p
-  unfolding madeAdd addPart addTable codingsOf
+  add-is : (p : ℕ) → p < 24 → madeAdd (inverted 32 B) R K p ≡ tab addLength (addTable (codingsOf B A R) K (p / 8) (p % 8))
+  unfolding madeAdd addTable codingsOf
   add-is p hp =
       let e : 8 * (p / 8) + p % 8 ≡ p = omega arith in
       let o : 384 + p ≡ 384 + (8 * (p / 8) + p % 8) = omega arith in
@@ -139,8 +140,8 @@ module _ (B A R K : List ℕ) (ready : RoundReady B A R) where
       (ready .masks (384 + (8 * (p / 8) + p % 8)) (omega arith) (omega arith)) e (sumEntries R p) (codingAt R (8 * (p / 8) + p % 8))
       (λ v hv. ap₂ (λ (y z : ℕ). addEntry (p % 8) (codingAt R y) (getD R z 0) v) e n)
 
-  turn-is : (p : ℕ) → p < 24 → madeTurn (inverted 24 R) A p ≡ turnPart (codingsOf B A R) p
-  unfolding madeTurn turnPart turnTable codingsOf
+  turn-is : (p : ℕ) → p < 24 → madeTurn (inverted 24 R) A p ≡ tab turnLength (turnTable (codingsOf B A R) (p / 8) (p % 8))
+  unfolding madeTurn turnTable codingsOf
   turn-is p hp = go (p / 8) (p % 8) (omega arith) (omega arith) (omega arith)
     where
       go : (i j : ℕ) → i < 3 → j < 8 → 8 * i + j ≡ p
@@ -161,16 +162,16 @@ module _ (B A R K : List ℕ) (ready : RoundReady B A R) where
           (λ x hx. inverse-at 24 R (16 * (8 * i + lower i j) + x) (8 * i + lower i j) x (omega arith) hx refl) i)
 
   pub round-is : chunks 24 (madeAdd (inverted 32 B) R K) ++ chunks 24 (madeTurn (inverted 24 R) A) ≡ roundPart (codingsOf B A R) K
-  unfolding roundPart
+  unfolding roundPart twoKinds tables
   round-is =
-      ap₂ {C = List ℕ} (λ (x y : List ℕ). x ++ y) (chunks-ext 24 (madeAdd (inverted 32 B) R K) (addPart (codingsOf B A R) K) add-is)
-      (chunks-ext 24 (madeTurn (inverted 24 R) A) (turnPart (codingsOf B A R)) turn-is)
+      ap₂ {C = List ℕ} (λ (x y : List ℕ). x ++ y) (chunks-ext 24 (madeAdd (inverted 32 B) R K) (λ p. tab addLength (addTable (codingsOf B A R) K (p / 8) (p % 8))) add-is)
+      (chunks-ext 24 (madeTurn (inverted 24 R) A) (λ p. tab turnLength (turnTable (codingsOf B A R) (p / 8) (p % 8))) turn-is)
 
 -- ---- a group
 
 module _ (S U F K : List ℕ) where
-  fold-is : (p : ℕ) → p < 32 → madeFold (inverted 32 S) (inverted 32 U) F K p ≡ foldPart (setOf S) (setOf U) (setOf F) K p
-  unfolding madeFold foldPart foldTable
+  fold-is : (p : ℕ) → p < 32 → madeFold (inverted 32 S) (inverted 32 U) F K p ≡ tab foldLength (foldTable (setOf S) (setOf U) (setOf F) K (p / 8) (p % 8))
+  unfolding madeFold foldTable
   fold-is p hp =
       let e : 8 * (p / 8) + p % 8 ≡ p = omega arith in
       let k = blockHalf K (p / 8) (p % 8) in
@@ -186,8 +187,8 @@ module _ (S U F K : List ℕ) where
       (λ x hx. inverse-at 32 U (16 * p + x) (8 * (p / 8) + p % 8) x (omega arith) hx (omega arith)) k)
 
   pub group-is : chunks 32 (madeFold (inverted 32 S) (inverted 32 U) F K) ≡ groupPart (setOf S) (setOf U) (setOf F) K
-  unfolding groupPart
-  group-is = chunks-ext 32 (madeFold (inverted 32 S) (inverted 32 U) F K) (foldPart (setOf S) (setOf U) (setOf F) K) fold-is
+  unfolding groupPart tables
+  group-is = chunks-ext 32 (madeFold (inverted 32 S) (inverted 32 U) F K) (λ p. tab foldLength (foldTable (setOf S) (setOf U) (setOf F) K (p / 8) (p % 8))) fold-is
 
 -- ---- a valid chain gives what its rounds are made from
 

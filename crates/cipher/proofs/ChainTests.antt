@@ -15,11 +15,11 @@ use Rattle.lists.proofs.EveryLaws.{and-true, true-and, every-all, all-every}
 use Rattle.lists.proofs.RefusalLaws.{Clear}
 use Rattle.cipher.specs.KeySize.{rounds, chainLength}
 use Rattle.cipher.specs.Coding.{OneToOne, Permutation, Permutations, codingAt, setOf}
-use Rattle.cipher.specs.Chain.{roundBytes, maskAt, maskIn, roundCodings, CodingRule, WordRule, MaskRule, Chain, LoneSet, isOneToOne, arePermutations, codingRuleHolds, wordRuleHolds, maskLimit, maskRuleHolds, setTests, chainTests}
+use Rattle.cipher.specs.Tables.{ValidCodings, ValidRound}
+use Rattle.cipher.specs.Chain.{roundBytes, maskAt, maskIn, roundCodings, CodingRule, WordRule, MaskRule, Chain, LoneSet, isOneToOne, arePermutations, codingRuleHolds, wordKept, wordRuleHolds, maskLimit, maskRuleHolds, setTests, chainTests}
 use Rattle.cipher.specs.Lengths.{setLength}
 use Rattle.cipher.specs.declared.size.KeySize.{KeySize}
 use Rattle.cipher.proofs.CodingLaws.{Agree}
-use Rattle.cipher.proofs.RoundLaw.{ValidRound}
 
 hold : (b : Bool) → b ≡ true → not b ≡ false
 hold b e = rw e
@@ -104,12 +104,24 @@ coding-in ch l k = λ i v. at v i
         let e : setLength * suc l + (16 * k + v) ≡ 16 * (32 * suc l + k) + v = omega arith in
         getD-drop (setLength * suc l) ch (16 * k + v) 0 ∙ ap (λ (n : ℕ). getD ch n 0) e
 
--- byte k of word 0 of set l, and of word 3 of the set after it
-abbrev front : List ℕ → ℕ → ℕ → ℕ
-front ch l k = getD (drop (setLength * suc l) ch) k 0
+-- word 3 of the set in t is coded as word 0 of the one in s exactly where `wordKept` says so
+module _ (s t : List ℕ) where
+  pub kept-tested : wordKept s t ≡ true → (j v : ℕ) → j < 8 → v < 16 → setOf t 3 j v ≡ setOf s 0 j v
+  kept-tested e j v hj hv =
+      let a : 16 * (8 * 3 + j) + v ≡ 128 * 3 + (16 * j + v) = omega arith in
+      let b : 16 * (8 * 0 + j) + v ≡ 16 * j + v = omega arith in
+      ap (λ (n : ℕ). getD t n 0) a
+      ∙ eqb-true (getD t (128 * 3 + (16 * j + v)) 0) (getD s (16 * j + v) 0)
+      (every-all 128 (λ k. eqb (getD t (128 * 3 + k) 0) (getD s k 0)) e (16 * j + v) (omega arith))
+      ∙ ap (λ (n : ℕ). getD s n 0) (sym b)
 
-abbrev third : List ℕ → ℕ → ℕ → ℕ
-third ch l k = getD (drop (setLength * suc (suc l)) ch) (128 * 3 + k) 0
+  pub tested-kept : ((j v : ℕ) → j < 8 → v < 16 → setOf t 3 j v ≡ setOf s 0 j v) → wordKept s t ≡ true
+  tested-kept h =
+      all-every 128 (λ k. eqb (getD t (128 * 3 + k) 0) (getD s k 0)) (λ k hk.
+      let a : 16 * (8 * 3 + k / 16) + k % 16 ≡ 128 * 3 + k = omega arith in
+      let b : 16 * (8 * 0 + k / 16) + k % 16 ≡ k = omega arith in
+      eq-eqb (getD t (128 * 3 + k) 0) (getD s k 0)
+      (ap (λ (n : ℕ). getD t n 0) (sym a) ∙ h (k / 16) (k % 16) (omega arith) (omega arith) ∙ ap (λ (n : ℕ). getD s n 0) b))
 
 module _ (r : ℕ) (ch : List ℕ) where
   pub codings-tested : codingRuleHolds r ch ≡ true → CodingRule r ch
@@ -142,25 +154,15 @@ module _ (r : ℕ) (ch : List ℕ) where
 
   pub word-tested : wordRuleHolds r ch ≡ true → WordRule r ch
   unfolding wordRuleHolds
-  word-tested t l j v hl hj hv =
-      let e = eqb-true (third ch l (16 * j + v)) (front ch l (16 * j + v))
-      (every-all 128 (λ k. eqb (third ch l k) (front ch l k))
-      (every-all r (λ l. every 128 (λ k. eqb (third ch l k) (front ch l k))) t l hl) (16 * j + v) (omega arith)) in
-      let a : 16 * (8 * 3 + j) + v ≡ 128 * 3 + (16 * j + v) = omega arith in
-      let b : 16 * (8 * 0 + j) + v ≡ 16 * j + v = omega arith in
-      ap (λ (n : ℕ). getD (drop (setLength * suc (suc l)) ch) n 0) a ∙ e ∙ ap (λ (n : ℕ). getD (drop (setLength * suc l) ch) n 0) (sym b)
+  word-tested t l j v hl =
+      kept-tested (drop (setLength * suc l) ch) (drop (setLength * suc (suc l)) ch)
+      (every-all r (λ l. wordKept (drop (setLength * suc l) ch) (drop (setLength * suc (suc l)) ch)) t l hl) j v
 
   pub tested-word : WordRule r ch → wordRuleHolds r ch ≡ true
   unfolding wordRuleHolds
   tested-word h =
-      all-every r (λ l. every 128 (λ k. eqb (third ch l k) (front ch l k))) (λ l hl.
-      all-every 128 (λ k. eqb (third ch l k) (front ch l k)) (λ k hk.
-      let a : 16 * (8 * 3 + k / 16) + k % 16 ≡ 128 * 3 + k = omega arith in
-      let b : 16 * (8 * 0 + k / 16) + k % 16 ≡ k = omega arith in
-      eq-eqb (third ch l k) (front ch l k)
-      (ap (λ (n : ℕ). getD (drop (setLength * suc (suc l)) ch) n 0) (sym a)
-      ∙ h l (k / 16) (k % 16) hl (omega arith) (omega arith)
-      ∙ ap (λ (n : ℕ). getD (drop (setLength * suc l) ch) n 0) b)))
+      all-every r (λ l. wordKept (drop (setLength * suc l) ch) (drop (setLength * suc (suc l)) ch)) (λ l hl.
+      tested-kept (drop (setLength * suc l) ch) (drop (setLength * suc (suc l)) ch) (λ j v. h l j v hl))
 
   limit-le : (k : ℕ) → maskLimit k ≤ 2
   limit-le k = go (eqb (k % 8) 0)
@@ -207,17 +209,19 @@ module _ (r : ℕ) (ch : List ℕ) where
           (subst (λ (n : ℕ). maskAt r ch l n < 2) (place k) (h .bits l (k / 8) (k % 8) hl (omega arith) (omega arith)))
 
   -- what a round of the tables asks of the chain
-  pub valid-round : CodingRule r ch → WordRule r ch → MaskRule r ch → (l : ℕ) → l < r → ValidRound (roundCodings r ch l)
+  pub valid-codings : CodingRule r ch → MaskRule r ch → (l : ℕ) → l < r → ValidCodings (roundCodings r ch l)
   unfolding roundCodings
-  valid-round c w m l h = record {
+  valid-codings c m l h = record {
     before-permute = c .sets l (omega arith);
     after-permute = c .sets (suc l) h;
     middle-permute = λ i j. c .middles l i j h;
-    word3 = λ j v. w l j v h;
     mask-bit = λ i j. m .bits l i j h;
     mask-first = λ i. m .firsts l i h;
     mask-next = λ i j hi hj. refl;
   }
+
+  pub valid-round : CodingRule r ch → WordRule r ch → MaskRule r ch → (l : ℕ) → l < r → ValidRound (roundCodings r ch l)
+  valid-round c w m l h = record { codings = valid-codings c m l h; word3 = unfold roundCodings in λ j v. w l j v h }
 
 -- the tests 2 to 5 let through the valid chains and no others
 pub chain-tested : (z : KeySize) (ch : List ℕ) → Clear (chainTests z ch) → Chain z ch

@@ -13,6 +13,8 @@ pub mod ImageLaws
 pub mod RippleAdd
 pub mod TurnDigits
 pub mod TableLaws
+pub mod TableRipple
+pub mod DecodedWords
 pub mod RoundLaw
 pub mod RoundsLaw
 pub mod FoldLaw
