@@ -9,7 +9,7 @@ use lib.Dec.{ltb}
 use lib.ListN.{getD}
 use Rattle.lists.specs.HalfBytes.{halfByte}
 use Rattle.cipher.specs.Lengths.{addLength, turnLength, foldLength, addsLength}
-use Rattle.cipher.specs.Coding.{Permutation, Permutations, Set, decode, blockHalf, ofHalves}
+use Rattle.cipher.specs.Coding.{Permutation, Permutations, Set, SameWord, decode, blockHalf, ofHalves}
 
 -- ---- an entry of a single table (01, "Book")
 
@@ -65,7 +65,7 @@ pub record ValidCodings (c : RoundCodings) : Type 0 where
 -- and with the word 3 rule (01's term): after the round, word 3 is coded as word 0 was before it
 pub record ValidRound (c : RoundCodings) : Type 0 where
   pub codings : ValidCodings c
-  pub word3 : (j v : ℕ) → j < 8 → v < 16 → c .after 3 j v ≡ c .before 0 j v
+  pub word3 : SameWord 0 3 (c .before) (c .after)
 
 -- entry n of add table (i, j) of a round, under its row k of round keys
 unfoldable pub addTable : RoundCodings → List ℕ → ℕ → ℕ → ℕ → ℕ

@@ -7,7 +7,7 @@ use borrow.Author.Needs.{needs}
 use Rattle.cipher.specs.KeySize.{keyLength, rounds, bookLength}
 use Rattle.cipher.specs.Book.{bookOf}
 use Rattle.cipher.proofs.KeySizeLaws.{found-length}
-use Rattle.book.proofs.AnswerLaws.{checked-valid, built-key, built-chain, built-room, built-front, front-length}
+use Rattle.book.proofs.AnswerLaws.{checked-valid, built-key, built-chain, built-room, built-front, room-length}
 use Rattle.book.proofs.build.build.Statement.{statement}
 use Rattle.book.proofs.build.build.Tie as tie
 
@@ -29,7 +29,7 @@ key-rows-requires c κs = found-length keyLength _ _ (sym (c .before .before .be
 fill-requires : tie.Need-fill-requires
 fill-requires c κs =
     let b = c .before .before .before .book-len .ensures in
-    (checked-valid (c .before .before .before .before .before .before .before .before .size .given .0 .0) _ (sym (c .before .before .before .before .before .before .check-sized .ensures) ∙ sym (c .before .before .before .before .before .number .ensures) ∙ c .before .before .before .before .if1 .left), front-length (c .before .before .before .book-len .result) (bookLength (c .before .before .before .before .before .before .before .before .size .given .0 .0)) (c .before .before .before .before .before .before .before .before .before .before .before .before .before .before .args .out .now) b (omega arith))
+    (checked-valid (c .before .before .before .before .before .before .before .before .size .given .0 .0) _ (sym (c .before .before .before .before .before .before .check-sized .ensures) ∙ sym (c .before .before .before .before .before .number .ensures) ∙ c .before .before .before .before .if1 .left), room-length (c .before .before .before .book-len .result) (bookLength (c .before .before .before .before .before .before .before .before .size .given .0 .0)) (c .before .before .before .before .before .before .before .before .before .before .before .before .before .before .args .out .now) b (omega arith))
 
 returns-4 : tie.Need-returns-4
 returns-4 c =
@@ -40,4 +40,8 @@ returns-4 c =
     (c .before .before .fill .ensures ∙ ap (λ (rows : List (List ℕ)). bookOf (rounds z) rows (e .args .chain .now)) (c .before .before .before .before .key-rows .ensures))
 
 pub build-spec : {M : Type 1} → statement M
-build-spec = tie.close (tie.spec (λ c κs. search needs) (λ c. search needs) (λ c. search needs) returns (λ c κs. search needs) (λ c κs. search needs) returns-2 (λ c κs. search needs) returns-3 key-rows-requires (λ c. search needs) (λ c. search needs) (λ c. search needs) fill-requires (λ c. search needs) returns-4)
+build-spec =
+    tie.close
+    (tie.spec (λ c κs. search needs) (λ c. search needs) (λ c. search needs) returns (λ c κs. search needs) (λ c κs. search needs) returns-2
+    (λ c κs. search needs) returns-3 key-rows-requires (λ c. search needs) (λ c. search needs) (λ c. search needs) fill-requires
+    (λ c. search needs) returns-4)

@@ -58,4 +58,8 @@ returns-4 c =
     (round-is z (e .args .key .now) (e .args .chain .now) _ _ (e .args .l) _ (c .before .before .before .before .before .rounds .ensures) (c .before .before .before .before .before .before .key-rows .ensures) (c .before .before .round-at .ensures))
 
 pub build-round-spec : {M : Type 1} → statement M
-build-round-spec = tie.close (tie.spec (λ c κs. search needs) (λ c. search needs) (λ c. search needs) returns (λ c κs. search needs) (λ c κs. search needs) returns-2 returns-3 key-rows-requires (λ c κs. search needs) rem-at mul-round-at array-copy-out-round-at (λ c. search needs) (λ c. search needs) (λ c. search needs) round-at-requires (λ c. search needs) returns-4)
+build-round-spec =
+    tie.close
+    (tie.spec (λ c κs. search needs) (λ c. search needs) (λ c. search needs) returns (λ c κs. search needs) (λ c κs. search needs) returns-2
+    returns-3 key-rows-requires (λ c κs. search needs) rem-at mul-round-at array-copy-out-round-at (λ c. search needs) (λ c. search needs)
+    (λ c. search needs) round-at-requires (λ c. search needs) returns-4)

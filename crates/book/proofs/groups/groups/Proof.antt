@@ -4,7 +4,7 @@ use native.Mathlib.Omega.{arith}
 use borrow.Author.Needs.{needs}
 use lib.Seq.{length-take-le}
 use Rattle.book.proofs.BuildLaws.{inverse-array}
-use Rattle.book.proofs.GroupLaws.{middle-length, last-length, three-joined, three-length, folds-length, groups-done}
+use Rattle.book.proofs.GroupLaws.{middle-length, last-length, three-joined, joined-length, folds-length, groups-done}
 use Rattle.book.proofs.groups.groups.Statement.{statement}
 use Rattle.book.proofs.groups.groups.Tie as tie
 
@@ -39,7 +39,7 @@ fold-tables-requires-3 c κs =
 same-length : tie.Need-same-length
 same-length c =
     let e = c .before .before .before .before .before .before .before .before .before .before .before .before .before .before .before .before .before .before .before .before .before .before .before .before .before .before .before .before .before .before in
-    three-length (c .before .before .before .before .before .before .before .before .before .before .before .before .before .before .fold-tables .last .1 .1 .1 .1 .0) (c .before .before .before .before .before .before .before .before .fold-tables2 .last .1 .1 .1 .1 .0) (e .args .out .now)
+    joined-length (c .before .before .before .before .before .before .before .before .before .before .before .before .before .before .fold-tables .last .1 .1 .1 .1 .0) (c .before .before .before .before .before .before .before .before .fold-tables2 .last .1 .1 .1 .1 .0) (e .args .out .now)
     (folds-length _ _ _ _ _ (c .before .before .before .before .before .before .before .before .before .before .before .before .before .before .fold-tables .ensures)) (e .pre .5) (c .before .before .fold-tables3 .last .1 .1 .1 .1 .0) (folds-length _ _ _ _ _ (c .before .before .before .before .before .before .before .before .fold-tables2 .ensures)) (folds-length _ _ _ _ _ (c .before .before .fold-tables3 .ensures))
 
 returns : tie.Need-returns
@@ -50,4 +50,10 @@ returns c =
     ∙ groups-done _ _ _ _ _ _ _ _ _ _ (c .before .before .before .before .before .before .before .before .before .before .before .before .before .before .before .before .before .before .before .before .before .before .before .before .invert .ensures) (c .before .before .before .before .before .before .before .before .before .before .before .before .before .before .before .before .before .before .before .before .before .invert2 .ensures) (c .before .before .before .before .before .before .before .before .before .before .before .before .before .before .fold-tables .ensures) (c .before .before .before .before .before .before .before .before .fold-tables2 .ensures) (c .before .before .fold-tables3 .ensures)
 
 pub groups-spec : {M : Type 1} → statement M
-groups-spec = tie.close (tie.spec (λ c. search needs) (λ c κs. search needs) (λ c. search needs) (λ c κs. search needs) (λ c. search needs) (λ c. search needs) (λ c. search needs) (λ c. search needs) (λ c. search needs) fold-tables-requires (λ c. search needs) (λ c. search needs) (λ c. search needs) (λ c. search needs) (λ c. search needs) (λ c. search needs) fold-tables-requires-2 (λ c. search needs) (λ c. search needs) (λ c. search needs) (λ c. search needs) (λ c. search needs) (λ c. search needs) (λ c. search needs) fold-tables-requires-3 same-length returns)
+groups-spec =
+    tie.close
+    (tie.spec (λ c. search needs) (λ c κs. search needs) (λ c. search needs) (λ c κs. search needs) (λ c. search needs) (λ c. search needs)
+    (λ c. search needs) (λ c. search needs) (λ c. search needs) fold-tables-requires (λ c. search needs) (λ c. search needs)
+    (λ c. search needs) (λ c. search needs) (λ c. search needs) (λ c. search needs) fold-tables-requires-2 (λ c. search needs)
+    (λ c. search needs) (λ c. search needs) (λ c. search needs) (λ c. search needs) (λ c. search needs) (λ c. search needs)
+    fold-tables-requires-3 same-length returns)

@@ -3,7 +3,7 @@ use mathlib.Core.Path.{_∙_}
 use native.Mathlib.Omega.{arith}
 use borrow.Author.Needs.{needs}
 use lib.Seq.{length-take-le}
-use Rattle.book.proofs.BuildLaws.{inverse-array, round-bytes, adds-length, turns-length, second-length, two-joined, two-length, round-done}
+use Rattle.book.proofs.BuildLaws.{inverse-array, round-bytes, adds-length, turns-length, second-length, two-joined, two-length, round-joined}
 use Rattle.book.proofs.rounds.round_tables.Statement.{statement}
 use Rattle.book.proofs.rounds.round_tables.Tie as tie
 
@@ -28,7 +28,11 @@ returns : tie.Need-returns
 returns c =
     let e = c .before .before .before .before .before .before .before .before .before .before .before .before .before .before .before .before .before .before .before .before in
     two-joined (c .before .before .before .before .before .before .before .add-tables .last .1 .1 .1 .0) (c .before .before .turn-tables .last .1 .1 .0) (e .args .out .now) 12288 6144 (e .pre .1) (adds-length _ _ _ _ (c .before .before .before .before .before .before .before .add-tables .ensures))
-    ∙ round-done _ _ _ _ _ _ _ _ (e .pre .0) (c .before .before .before .before .before .before .before .before .before .before .before .before .before .before .invert .ensures) (c .before .before .before .before .before .before .before .before .before .before .before .invert2 .ensures) (c .before .before .before .before .before .before .before .add-tables .ensures) (c .before .before .turn-tables .ensures)
+    ∙ round-joined _ _ _ _ _ _ _ _ (e .pre .0) (c .before .before .before .before .before .before .before .before .before .before .before .before .before .before .invert .ensures) (c .before .before .before .before .before .before .before .before .before .before .before .invert2 .ensures) (c .before .before .before .before .before .before .before .add-tables .ensures) (c .before .before .turn-tables .ensures)
 
 pub round-tables-spec : {M : Type 1} → statement M
-round-tables-spec = tie.close (tie.spec (λ c. search needs) (λ c κs. search needs) (λ c. search needs) (λ c κs. search needs) (λ c. search needs) (λ c. search needs) (λ c. search needs) (λ c. search needs) add-tables-requires (λ c. search needs) (λ c. search needs) (λ c. search needs) (λ c. search needs) turn-tables-requires same-length returns)
+round-tables-spec =
+    tie.close
+    (tie.spec (λ c. search needs) (λ c κs. search needs) (λ c. search needs) (λ c κs. search needs) (λ c. search needs) (λ c. search needs)
+    (λ c. search needs) (λ c. search needs) add-tables-requires (λ c. search needs) (λ c. search needs) (λ c. search needs)
+    (λ c. search needs) turn-tables-requires same-length returns)

@@ -22,4 +22,7 @@ returns c =
     ∙ fold-made _ _ _ _ _ _ _ _ _ (d .before .before .before .before .keyed .ensures) (part-end (e .args .u .now) (16 * e .args .p)) (part-end (e .args .first .now) (16 * e .args .p)) (d .before .before .before .before .before .block-half .ensures .0)
 
 pub fold-table-spec : {M : Type 1} → statement M
-fold-table-spec = tie.close (tie.spec (λ c. search needs) (λ c κs. search needs) (λ c κs. search needs) (λ c. search needs) (λ c. search needs) (λ c. search needs) (λ c. search needs) (λ c. search needs) (λ c. search needs) (λ c. search needs) xor-table-requires (λ c. search needs) returns)
+fold-table-spec =
+    tie.close
+    (tie.spec (λ c. search needs) (λ c κs. search needs) (λ c κs. search needs) (λ c. search needs) (λ c. search needs) (λ c. search needs)
+    (λ c. search needs) (λ c. search needs) (λ c. search needs) (λ c. search needs) xor-table-requires (λ c. search needs) returns)

@@ -47,4 +47,7 @@ returns : tie.Need-returns Inv-loop μ-loop
 returns c = chunks-full _ _ _ 32 (c .before .loop .p) (c .before .loop .at) (c .before .loop .inv .3) (omega arith) (omega arith)
 
 pub fold-tables-spec : {M : Type 1} → statement M
-fold-tables-spec = tie.close (tie.spec Inv-loop μ-loop loop-holds (λ c. search needs) (λ c. search needs) (λ c. search needs) (λ c. search needs) fold-table-requires (λ c. search needs) (λ c. search needs) loop-again same-length returns)
+fold-tables-spec =
+    tie.close
+    (tie.spec Inv-loop μ-loop loop-holds (λ c. search needs) (λ c. search needs) (λ c. search needs) (λ c. search needs) fold-table-requires
+    (λ c. search needs) (λ c. search needs) loop-again same-length returns)

@@ -23,4 +23,8 @@ returns c =
     (d .before .before .before .before .before .before .before .upper-at .ensures .0) (d .before .before .before .before .before .lower-at .ensures .0)
 
 pub turn-table-spec : {M : Type 1} → statement M
-turn-table-spec = tie.close (tie.spec (λ c κs. search needs) (λ c κs. search needs) (λ c κs. search needs) (λ c κs. search needs) (λ c. search needs) (λ c. search needs) (λ c. search needs) (λ c. search needs) (λ c. search needs) (λ c. search needs) sum-table-requires (λ c. search needs) returns)
+turn-table-spec =
+    tie.close
+    (tie.spec (λ c κs. search needs) (λ c κs. search needs) (λ c κs. search needs) (λ c κs. search needs) (λ c. search needs)
+    (λ c. search needs) (λ c. search needs) (λ c. search needs) (λ c. search needs) (λ c. search needs) sum-table-requires
+    (λ c. search needs) returns)
