@@ -10,5 +10,6 @@ pub mod Coding
 pub mod Images
 pub mod Tables
 pub mod Chain
+pub mod ChainParts
 pub mod Book
 pub mod Answers

@@ -1,9 +1,9 @@
--- What an answer 0 of the builder tells: the key has a known size, the chain is valid, and the book in the buffer is that of
--- the key's rows and the chain.
+-- When the builder answers 0: with every key of a known size, every valid chain and every buffer that has room; and what that answer
+-- tells: the key has a known size, the chain is valid, and the book in the buffer is that of the key's rows and the chain.
 use mathlib.Core.Path.{_≡_, refl, sym, ap, _∙_, subst}
 use mathlib.Core.Bool.{Bool, true, false, cond, not, _||_}
 use mathlib.Core.List.{List, [], _∷_, _++_}
-use Prim.Native.Nat.{ℕ}
+use Prim.Native.Nat.{ℕ, _≤_}
 use native.Mathlib.Omega.{arith}
 use lib.Dec.{eqb, lit<}
 use lib.ListN.{length, take, drop}
@@ -11,17 +11,28 @@ use lib.Seq.{take-at}
 use Rattle.lists.specs.Refusals.{first}
 use Rattle.lists.proofs.RefusalLaws.{Clear}
 use Rattle.cipher.specs.Lea.{keyRows}
-use Rattle.cipher.specs.KeySize.{bookLength, sizeBy, sizeOfKey}
+use Rattle.cipher.specs.KeySize.{rounds, bookLength, sizeBy, sizeOfKey}
 use Rattle.cipher.specs.Chain.{Chain, chainTests}
 use Rattle.cipher.specs.Book.{bookOf, Book}
 use Rattle.cipher.specs.Answers.{keyTests, keyLengthSize, keySize, roomTests}
+use Rattle.cipher.specs.declared.size.KeySize.{KeySize}
 use Rattle.cipher.specs.declared.size.SizeFound.the-variants.{Found, Unknown}
 use Rattle.cipher.specs.declared.size.KeySize.the-variants.{Bytes16, Bytes24, Bytes32}
 use Rattle.cipher.proofs.CheckLaws.{Numbered}
 use Rattle.cipher.proofs.ChainTests.{chain-tested}
 use Rattle.cipher.proofs.BookLaw.{book-size, book-made}
 use Rattle.book.specs.Answers.{builtInto}
+use Rattle.book.proofs.AnswerLaws.{built-done}
 use Rattle.claims.specs.Built.{Built, bookIn, keyRounds}
+
+-- ---- a valid chain and a key of its size give a book, in every buffer that has room for it
+
+pub any-built : (z : KeySize) (key ch out : List ℕ) → sizeOfKey (length key) ≡ Found z → Chain z ch → bookLength z ≤ length out
+    → Built key ch out (bookOf (rounds z) (keyRows z key) ch ++ drop (bookLength z) out)
+any-built z key ch out e v h =
+    sym (built-done key ch out bookLength (λ y. bookOf (rounds y) (keyRows y key) ch) z e v h (bookOf (rounds z) (keyRows z key) ch) refl)
+
+-- ---- what an answer 0 tells
 
 -- an answer of which the number is 0 is no refusal's
 module _ {A : Type 0} (number : A → ℕ) (refuse : ℕ → A) (e : (q : ℕ) → number (refuse q) ≡ q) (go : A) where
