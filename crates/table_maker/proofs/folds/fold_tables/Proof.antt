@@ -37,7 +37,8 @@ loop-again c =
       omega arith,
       omega arith,
       same-len-mid (s .loop .at) (s .loop .at + 256 - s .loop .at) (s .loop .out) (call .fold-table .last .1 .1 .1 .1 .1 .0) (call .fold-table .kept .1 .1 .1 .1 .1 .0) ∙ s .loop .inv .2,
-      chunks-turn (madeFold (a .s .now) (a .u .now) (a .first .now) (a .k)) 256 (length-fold (a .s .now) (a .u .now) (a .first .now) (a .k)) _ _ _ _ _ (s .loop .inv .3) (s .loop .inv .1) (call .fold-table .ensures),
+      chunks-turn (madeFold (a .s .now) (a .u .now) (a .first .now) (a .k)) 256 (length-fold (a .s .now) (a .u .now) (a .first .now) (a .k)) _ _ _ _ _
+          (s .loop .inv .3) (s .loop .inv .1) (call .fold-table .ensures),
     )
 
 same-length : tie.Need-same-length Inv-loop μ-loop
