@@ -7,7 +7,7 @@ use native.Mathlib.Omega.{arith}
 use lib.ListN.{length, take, drop}
 use lib.Seq.{take-all, drop-at, drop-drop}
 use Rattle.lists.specs.Tabulation.{chunks}
-use Rattle.lists.specs.Blocks.{Bytes, Block, xorBlock, cut, blocks, blockOf}
+use Rattle.lists.specs.Blocks.{Bytes, Block, xorBlock, cut, blocks, blockOf, blockBefore}
 use Rattle.lists.proofs.BlockLaws.{block-xor, bytes-take, bytes-drop, cut-more, flatten-more}
 use Rattle.lists.proofs.ChunkLaws.{chunks-more, length-chunks}
 use Rattle.lists.proofs.PartLaws.{put-more}
@@ -20,7 +20,7 @@ use Rattle.cipher.specs.Images.{imagesOf, imaged}
 use Rattle.cipher.proofs.LeaLaws.{backward-words, words-bytes, bytes-words, words-xor, words-four, block-undone}
 use Rattle.cipher.proofs.InverseLaws.{decoded-inverted}
 use Rattle.cipher.proofs.ImageLaws.{imaged-coded}
-use Rattle.archive.specs.Blocks.{WordRows, blockBefore, openedBlock}
+use Rattle.archive.specs.Blocks.{WordRows, openedBlock}
 use Rattle.archive.specs.Archive.{openedText}
 
 -- ---- one block, in words

@@ -1,10 +1,10 @@
 -- A sealed text opened block by block, where f decodes a block, under any rows: inner functions' own words for `openedText`.
 use mathlib.Core.Path.{_≡_}
 use mathlib.Core.List.{List, []}
-use Prim.Native.Nat.{ℕ, zero, suc, _^_}
+use Prim.Native.Nat.{ℕ, _^_}
 use lib.ListN.{length, getD}
 use Rattle.cipher.specs.Lengths.{imagesLength}
-use Rattle.lists.specs.Blocks.{Below, Bytes, xorBlock, blockOf}
+use Rattle.lists.specs.Blocks.{Below, Bytes, xorBlock, blockOf, blockBefore}
 use Rattle.cipher.specs.Lea.{undoneRounds}
 
 -- rows of words
@@ -14,11 +14,6 @@ WordRows rows = (l : ℕ) → Below (2 ^ 32) (getD rows l [])
 -- a byte for each byte in each place of a block
 abbrev pub Table : List ℕ → Type 0
 Table t = (length t ≡ imagesLength) × Bytes t
-
--- what stands in front of block k of a text: the IV in front of the first
-unfoldable pub blockBefore : List ℕ → List ℕ → ℕ → List ℕ
-blockBefore iv text zero = iv
-blockBefore iv text (suc k) = blockOf text k
 
 -- block k opened
 unfoldable pub openedBlock : List (List ℕ) → ℕ → (List ℕ → List ℕ) → List ℕ → List ℕ → ℕ → List ℕ

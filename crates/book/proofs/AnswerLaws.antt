@@ -86,8 +86,8 @@ module _ (key ch out : List ℕ) (len : KeySize → ℕ) (part : KeySize → Lis
           ap (λ (k : ℕ). (0, x ++ drop k out)) d ∙ built-done h x p
 
 -- the front of a buffer, as it is lent, and what is after it
-pub front-length : (n m : ℕ) (out : List ℕ) → n ≡ m → m ≤ length out → length (take (n - 0) out) ≡ m
-front-length n m out e h =
+pub room-length : (n m : ℕ) (out : List ℕ) → n ≡ m → m ≤ length out → length (take (n - 0) out) ≡ m
+room-length n m out e h =
     let d : n - 0 ≡ m = omega arith in
     rw d (length-take-le m out h)
 

@@ -9,7 +9,7 @@ use lib.Bits.{bitXor, xor-lt, xor-comm}
 use lib.Dec.{lit<}
 use lib.ListN.{length, getD, take, drop, length-append, length-drop, List·getD-eq-default}
 use lib.Seq.{getD-drop, drop-at, length-take-le}
-use Rattle.lists.specs.Tabulation.{tab, chunks}
+use Rattle.lists.specs.Tabulation.{tab, chunks, tables}
 use Rattle.lists.specs.Blocks.{Below}
 use Rattle.lists.specs.HalfBytes.{halfByte}
 use Rattle.lists.proofs.TabulationLaws.{length-tab, getD-tab, tab-ext}
@@ -20,36 +20,33 @@ use Rattle.lists.proofs.XorLaws.{xor-assoc}
 use Rattle.cipher.specs.Coding.{FirstPermutations, codingAt, setOf, decode, inverted, blockHalf}
 use Rattle.cipher.specs.Tables.{addEntry, addSum, addTable, turned, upper, lower, turnTable, foldTable}
 use Rattle.cipher.specs.KeySize.{rounds}
-use Rattle.cipher.specs.Chain.{Chain, roundBytes, roundCodings}
+use Rattle.cipher.specs.Lengths.{addLength, turnLength, foldLength}
+use Rattle.cipher.specs.Chain.{Chain, roundBytes, maskInto, maskOutOf, roundCodings}
 use Rattle.cipher.specs.declared.size.KeySize.{KeySize}
-use Rattle.cipher.specs.Book.{addPart, turnPart, roundPart, foldPart, groupPart}
+use Rattle.cipher.specs.Book.{twoKinds, roundPart, groupPart}
 use Rattle.cipher.proofs.Permutation.{decode-lt}
 use Rattle.cipher.proofs.InverseLaws.{length-inverted, inverted-at}
 use Rattle.cipher.proofs.TableLaws.{add-rows, turn-rows, fold-rows}
-use Rattle.table_maker.specs.Rows.{sumRow, sumTable, xorRow, xorTable}
+use Rattle.table_maker.specs.Rows.{rowBy, tableBy}
 use Rattle.table_maker.specs.Made.{RoundBytes, RoundReady, codingsOf, keyedBy, summands, sumEntries, madeAdd, upperPart, lowerPart, upperParts, lowerParts, madeTurn, madeFold}
 use Rattle.table_maker.proofs.MadeLaws.{length-add, length-turn, length-fold}
 
 -- ---- tables by their entries
 
-pub sum-table-is : (E : List ℕ) (n : ℕ) (a b : ℕ → ℕ) (g : ℕ → ℕ → ℕ) → ((x q : ℕ) → x < n → q < 16 → getD E (a x + b q) 0 ≡ g x q)
-    → sumTable E (tab n a) (tab 16 b) ≡ chunks n (λ x. tab 16 (g x))
-unfolding sumTable sumRow
-sum-table-is E n a b g h =
-    ap (λ (m : ℕ). chunks m (λ x. tab 16 (λ q. getD E (getD (tab n a) x 0 + getD (tab 16 b) q 0) 0))) (length-tab n a)
-    ∙ chunks-ext n (λ x. tab 16 (λ q. getD E (getD (tab n a) x 0 + getD (tab 16 b) q 0) 0)) (λ x. tab 16 (g x)) (λ x hx.
-    tab-ext 16 (λ q. getD E (getD (tab n a) x 0 + getD (tab 16 b) q 0) 0) (g x) (λ q hq.
-    ap₂ (λ (y z : ℕ). getD E (y + z) 0) (getD-tab n a x hx) (getD-tab 16 b q hq) ∙ h x q hx hq))
+table-is : (op : ℕ → ℕ → ℕ) (E : List ℕ) (n : ℕ) (a : ℕ → ℕ) (B : List ℕ) (g : ℕ → ℕ → ℕ)
+    → ((x q : ℕ) → x < n → q < 16 → getD E (op (a x) (getD B q 0)) 0 ≡ g x q) → tableBy op E (tab n a) B ≡ chunks n (λ x. tab 16 (g x))
+unfolding tableBy rowBy
+table-is op E n a B g h =
+    ap (λ (m : ℕ). chunks m (λ x. tab 16 (λ q. getD E (op (getD (tab n a) x 0) (getD B q 0)) 0))) (length-tab n a)
+    ∙ chunks-ext n (λ x. tab 16 (λ q. getD E (op (getD (tab n a) x 0) (getD B q 0)) 0)) (λ x. tab 16 (g x)) (λ x hx.
+    tab-ext 16 (λ q. getD E (op (getD (tab n a) x 0) (getD B q 0)) 0) (g x) (λ q hq.
+    ap (λ (y : ℕ). getD E (op y (getD B q 0)) 0) (getD-tab n a x hx) ∙ h x q hx hq))
 
-pub xor-table-is : (E : List ℕ) (n : ℕ) (a : ℕ → ℕ) (B : List ℕ) (g : ℕ → ℕ → ℕ)
-    → ((x q : ℕ) → x < n → q < 16 → getD E (bitXor (a x) (getD B q 0)) 0 ≡ g x q)
-    → xorTable E (tab n a) B ≡ chunks n (λ x. tab 16 (g x))
-unfolding xorTable xorRow
-xor-table-is E n a B g h =
-    ap (λ (m : ℕ). chunks m (λ x. tab 16 (λ q. getD E (bitXor (getD (tab n a) x 0) (getD B q 0)) 0))) (length-tab n a)
-    ∙ chunks-ext n (λ x. tab 16 (λ q. getD E (bitXor (getD (tab n a) x 0) (getD B q 0)) 0)) (λ x. tab 16 (g x)) (λ x hx.
-    tab-ext 16 (λ q. getD E (bitXor (getD (tab n a) x 0) (getD B q 0)) 0) (g x) (λ q hq.
-    ap (λ (y : ℕ). getD E (bitXor y (getD B q 0)) 0) (getD-tab n a x hx) ∙ h x q hx hq))
+-- the same where the places' operands are tabulated too
+both-tabled : (op : ℕ → ℕ → ℕ) (E : List ℕ) (n : ℕ) (a b : ℕ → ℕ) (g : ℕ → ℕ → ℕ)
+    → ((x q : ℕ) → x < n → q < 16 → getD E (op (a x) (b q)) 0 ≡ g x q) → tableBy op E (tab n a) (tab 16 b) ≡ chunks n (λ x. tab 16 (g x))
+both-tabled op E n a b g h =
+    table-is op E n a (tab 16 b) g (λ x q hx hq. ap (λ (y : ℕ). getD E (op (a x) y) 0) (getD-tab 16 b q hq) ∙ h x q hx hq)
 
 -- ---- inverted codings
 
@@ -112,10 +109,10 @@ module _ (B R : List ℕ) (before : FirstPermutations 32 B) (p i j k l m m' : �
       ∙ getD-tab 32 entry (keyedBy (inverted 32 B) (16 * p) k (x % 16) + keyedBy (inverted 32 B) (16 * p + 128) l q + bitXor (x / 16) m) (omega arith)
 
   add-rows-are : (h : ℕ → ℕ) → ((n : ℕ) → n < 32 → addEntry j h m' n ≡ entry n)
-      → sumTable (tab 32 entry) (tab 32 (summands (inverted 32 B) (16 * p) k m)) (tab 16 (keyedBy (inverted 32 B) (16 * p + 128) l))
+      → tableBy _+_ (tab 32 entry) (tab 32 (summands (inverted 32 B) (16 * p) k m)) (tab 16 (keyedBy (inverted 32 B) (16 * p + 128) l))
       ≡ tab 512 (λ n. addEntry j h m' (addSum (codingAt B (8 * i + j)) (codingAt B (8 * suc i + j)) k l m n))
   add-rows-are h same =
-      sum-table-is (tab 32 entry) 32 (summands (inverted 32 B) (16 * p) k m) (keyedBy (inverted 32 B) (16 * p + 128) l)
+      both-tabled _+_ (tab 32 entry) 32 (summands (inverted 32 B) (16 * p) k m) (keyedBy (inverted 32 B) (16 * p + 128) l)
       (λ x q. entry (keyedBy (inverted 32 B) (16 * p) k (x % 16) + keyedBy (inverted 32 B) (16 * p + 128) l q + bitXor (x / 16) m)) add-at
       ∙ sym (add-rows (codingAt B (8 * i + j)) (codingAt B (8 * suc i + j)) h j k l m m'
       (before (8 * i + j) (omega arith)) (before (8 * suc i + j) (omega arith)) hk hl hm
@@ -125,33 +122,36 @@ module _ (B R : List ℕ) (before : FirstPermutations 32 B) (p i j k l m m' : �
       same)
 
 module _ (B A R K : List ℕ) (ready : RoundReady B A R) where
-  add-is : (p : ℕ) → p < 24 → madeAdd (inverted 32 B) R K p ≡ addPart (codingsOf B A R) K p
-  unfolding madeAdd addPart addTable codingsOf
-  add-is p hp =
-      let e : 8 * (p / 8) + p % 8 ≡ p = omega arith in
-      let o : 384 + p ≡ 384 + (8 * (p / 8) + p % 8) = omega arith in
-      let n : 384 + (8 * (p / 8) + suc (p % 8)) ≡ 385 + p = omega arith in
-      ap (λ (m : ℕ). sumTable (tab 32 (sumEntries R p)) (tab 32 (summands (inverted 32 B) (16 * p) (halfByte (getD K (2 * (p / 8)) 0) (p % 8)) (getD R m 0)))
-      (tab 16 (keyedBy (inverted 32 B) (16 * p + 128) (halfByte (getD K (2 * (p / 8) + 1) 0) (p % 8))))) o
-      ∙ add-rows-are B R (ready .before) p (p / 8) (p % 8) (halfByte (getD K (2 * (p / 8)) 0) (p % 8)) (halfByte (getD K (2 * (p / 8) + 1) 0) (p % 8))
-      (getD R (384 + (8 * (p / 8) + p % 8)) 0) (getD R (384 + (8 * (p / 8) + suc (p % 8))) 0) (omega arith) (omega arith)
-      (half-lt (getD K (2 * (p / 8)) 0) (p % 8)) (half-lt (getD K (2 * (p / 8) + 1) 0) (p % 8))
-      (ready .masks (384 + (8 * (p / 8) + p % 8)) (omega arith) (omega arith)) e (sumEntries R p) (codingAt R (8 * (p / 8) + p % 8))
-      (λ v hv. ap₂ (λ (y z : ℕ). addEntry (p % 8) (codingAt R y) (getD R z 0) v) e n)
+  -- the mask of a carry in is a bit
+  mask-bit : (i j : ℕ) → i < 3 → j < 8 → maskInto R i j < 2
+  mask-bit i zero hi hj = lit< tt
+  mask-bit i (suc j) hi hj = ready .masks (384 + (8 * i + suc j)) (omega arith) (omega arith)
 
-  turn-is : (p : ℕ) → p < 24 → madeTurn (inverted 24 R) A p ≡ turnPart (codingsOf B A R) p
-  unfolding madeTurn turnPart turnTable codingsOf
+  add-is : (p : ℕ) → p < 24 → madeAdd (inverted 32 B) R K p ≡ tab addLength (addTable (codingsOf B A R) K (p / 8) (p % 8))
+  unfolding madeAdd addTable codingsOf
+  add-is p hp =
+      let i = p / 8 in
+      let j = p % 8 in
+      let e : 8 * i + j ≡ p = omega arith in
+      let k = halfByte (getD K (2 * i) 0) j in
+      let l = halfByte (getD K (2 * i + 1) 0) j in
+      add-rows-are B R (ready .before) p i j k l (maskInto R i j) (maskOutOf R i j) (omega arith) (omega arith)
+      (half-lt (getD K (2 * i) 0) j) (half-lt (getD K (2 * i + 1) 0) j) (mask-bit i j (omega arith) (omega arith)) e (sumEntries R p) (codingAt R (8 * i + j))
+      (λ v hv. ap (λ (y : ℕ). addEntry j (codingAt R y) (maskOutOf R i j) v) e)
+
+  turn-is : (p : ℕ) → p < 24 → madeTurn (inverted 24 R) A p ≡ tab turnLength (turnTable (codingsOf B A R) (p / 8) (p % 8))
+  unfolding madeTurn turnTable codingsOf
   turn-is p hp = go (p / 8) (p % 8) (omega arith) (omega arith) (omega arith)
     where
       go : (i j : ℕ) → i < 3 → j < 8 → 8 * i + j ≡ p
-          → sumTable (drop (16 * p) A) (tab 16 (upperParts (inverted 24 R) (16 * (8 * i + upper i j)) i)) (tab 16 (lowerParts (inverted 24 R) (16 * (8 * i + lower i j)) i))
+          → tableBy _+_ (drop (16 * p) A) (tab 16 (upperParts (inverted 24 R) (16 * (8 * i + upper i j)) i)) (tab 16 (lowerParts (inverted 24 R) (16 * (8 * i + lower i j)) i))
           ≡ tab 256 (turnTable (codingsOf B A R) i j)
       go i j hi hj e =
           let hu = upper-lt i j in
           let hl = lower-lt i j hj in
           let u : ℕ → ℕ = λ x. getD (inverted 24 R) (16 * (8 * i + upper i j) + x) 0 in
           let v : ℕ → ℕ = λ x. getD (inverted 24 R) (16 * (8 * i + lower i j) + x) 0 in
-          sum-table-is (drop (16 * p) A) 16 (upperParts (inverted 24 R) (16 * (8 * i + upper i j)) i) (lowerParts (inverted 24 R) (16 * (8 * i + lower i j)) i)
+          both-tabled _+_ (drop (16 * p) A) 16 (upperParts (inverted 24 R) (16 * (8 * i + upper i j)) i) (lowerParts (inverted 24 R) (16 * (8 * i + lower i j)) i)
           (λ x q. codingAt A (8 * i + j) (turned i (u x) (v q))) (λ x q hx hq.
           let w = parts-turn i (u x) (v q) (inverse-below 24 R (ready .middles) (16 * (8 * i + lower i j) + q)) in
           getD-drop (16 * p) A (upperPart i (u x) + lowerPart i (v q)) 0
@@ -161,22 +161,22 @@ module _ (B A R K : List ℕ) (ready : RoundReady B A R) where
           (λ x hx. inverse-at 24 R (16 * (8 * i + lower i j) + x) (8 * i + lower i j) x (omega arith) hx refl) i)
 
   pub round-is : chunks 24 (madeAdd (inverted 32 B) R K) ++ chunks 24 (madeTurn (inverted 24 R) A) ≡ roundPart (codingsOf B A R) K
-  unfolding roundPart
+  unfolding roundPart twoKinds tables
   round-is =
-      ap₂ {C = List ℕ} (λ (x y : List ℕ). x ++ y) (chunks-ext 24 (madeAdd (inverted 32 B) R K) (addPart (codingsOf B A R) K) add-is)
-      (chunks-ext 24 (madeTurn (inverted 24 R) A) (turnPart (codingsOf B A R)) turn-is)
+      ap₂ {C = List ℕ} (λ (x y : List ℕ). x ++ y) (chunks-ext 24 (madeAdd (inverted 32 B) R K) (λ p. tab addLength (addTable (codingsOf B A R) K (p / 8) (p % 8))) add-is)
+      (chunks-ext 24 (madeTurn (inverted 24 R) A) (λ p. tab turnLength (turnTable (codingsOf B A R) (p / 8) (p % 8))) turn-is)
 
 -- ---- a group
 
 module _ (S U F K : List ℕ) where
-  fold-is : (p : ℕ) → p < 32 → madeFold (inverted 32 S) (inverted 32 U) F K p ≡ foldPart (setOf S) (setOf U) (setOf F) K p
-  unfolding madeFold foldPart foldTable
+  fold-is : (p : ℕ) → p < 32 → madeFold (inverted 32 S) (inverted 32 U) F K p ≡ tab foldLength (foldTable (setOf S) (setOf U) (setOf F) K (p / 8) (p % 8))
+  unfolding madeFold foldTable
   fold-is p hp =
       let e : 8 * (p / 8) + p % 8 ≡ p = omega arith in
       let k = blockHalf K (p / 8) (p % 8) in
       let u : ℕ → ℕ = λ x. getD (inverted 32 S) (16 * p + x) 0 in
       let v : ℕ → ℕ = λ x. getD (inverted 32 U) (16 * p + x) 0 in
-      xor-table-is (drop (16 * p) F) 16 (keyedBy (inverted 32 S) (16 * p) k) (drop (16 * p) (inverted 32 U))
+      table-is bitXor (drop (16 * p) F) 16 (keyedBy (inverted 32 S) (16 * p) k) (drop (16 * p) (inverted 32 U))
       (λ x q. codingAt F (8 * (p / 8) + p % 8) (bitXor (bitXor (u x) (v q)) k)) (λ x q hx hq.
       getD-drop (16 * p) F (bitXor (bitXor (u x) k) (getD (drop (16 * p) (inverted 32 U)) q 0)) 0
       ∙ ap₂ (λ (y z : ℕ). getD F (16 * y + z) 0) (sym e)
@@ -186,8 +186,8 @@ module _ (S U F K : List ℕ) where
       (λ x hx. inverse-at 32 U (16 * p + x) (8 * (p / 8) + p % 8) x (omega arith) hx (omega arith)) k)
 
   pub group-is : chunks 32 (madeFold (inverted 32 S) (inverted 32 U) F K) ≡ groupPart (setOf S) (setOf U) (setOf F) K
-  unfolding groupPart
-  group-is = chunks-ext 32 (madeFold (inverted 32 S) (inverted 32 U) F K) (foldPart (setOf S) (setOf U) (setOf F) K) fold-is
+  unfolding groupPart tables
+  group-is = chunks-ext 32 (madeFold (inverted 32 S) (inverted 32 U) F K) (λ p. tab foldLength (foldTable (setOf S) (setOf U) (setOf F) K (p / 8) (p % 8))) fold-is
 
 -- ---- a valid chain gives what its rounds are made from
 
@@ -256,6 +256,6 @@ module _ (x y out : List ℕ) (m n : ℕ) (room : length out ≡ m + n) (lx : le
   pub two-length : length y ≡ n → length (take m (x ++ drop m out) ++ (y ++ drop n (drop m (x ++ drop m out)))) ≡ length out
   two-length ly = ap length two-joined ∙ length-append x y ∙ rw (lx, ly) (sym room)
 
-pub round-done : (B A R K s m x y : List ℕ) → RoundReady B A R → s ≡ inverted 32 B → m ≡ inverted 24 R → x ≡ chunks 24 (madeAdd s R K)
+pub round-joined : (B A R K s m x y : List ℕ) → RoundReady B A R → s ≡ inverted 32 B → m ≡ inverted 24 R → x ≡ chunks 24 (madeAdd s R K)
     → y ≡ chunks 24 (madeTurn m A) → x ++ y ≡ roundPart (codingsOf B A R) K
-round-done B A R K s m x y h es em ex ey = rw (ex, ey, es, em) (round-is B A R K h)
+round-joined B A R K s m x y h es em ex ey = rw (ex, ey, es, em) (round-is B A R K h)

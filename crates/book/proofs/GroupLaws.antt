@@ -70,8 +70,8 @@ module _ (x y out : List ℕ) (lx : length x ≡ 8192) (room : length out ≡ 24
         ∙ grown-part (x ++ y) w out 16384 8192 two
         ∙ grown-whole ((x ++ y) ++ w) out 24576 (le-of-eq room)
 
-    pub three-length : length w ≡ 8192 → length (take 16384 (secondOf x y out) ++ (w ++ drop 8192 (drop 16384 (secondOf x y out)))) ≡ length out
-    three-length lw = ap length three-joined ∙ length-append (x ++ y) w ∙ rw (two, lw) (sym room)
+    pub joined-length : length w ≡ 8192 → length (take 16384 (secondOf x y out) ++ (w ++ drop 8192 (drop 16384 (secondOf x y out)))) ≡ length out
+    joined-length lw = ap length three-joined ∙ length-append (x ++ y) w ∙ rw (two, lw) (sym room)
 
 pub folds-length : (x s u F K : List ℕ) → x ≡ chunks 32 (madeFold s u F K) → length x ≡ 8192
 folds-length x s u F K e = ap length e ∙ length-chunks (madeFold s u F K) 256 (length-fold s u F K) 32

@@ -2,88 +2,68 @@
 -- of them open: it is said of one list alone.
 use mathlib.Core.Path.{_≡_, refl, sym, ap, _∙_}
 use mathlib.Core.List.{List, [], _++_}
-use Prim.Native.Nat.{ℕ, _+_, _-_, _*_, _/_, _%_, _≤_, _<_}
+use Prim.Native.Nat.{ℕ, suc, _+_, _-_, _*_, _/_, _%_, _≤_, _<_}
 use native.Mathlib.Decide.{decLt}
+use native.Mathlib.Nat.{suc-mul, mul-comm, mul-le-mul-right}
 use native.Mathlib.Omega.{arith}
 use lib.ListN.{length, getD, length-append, List·getD-append}
 use lib.Seq.{ext-getD, getD-drop, getD-take, take-at}
-use Rattle.lists.specs.Tabulation.{chunks}
-use Rattle.lists.proofs.TabulationLaws.{length-tab, getD-tab}
-use Rattle.lists.proofs.ChunkLaws.{length-chunks, getD-chunks, getD-second}
+use Rattle.lists.specs.Tabulation.{chunks, tables}
+use Rattle.lists.proofs.TabulationLaws.{length-tab}
+use Rattle.lists.proofs.ChunkLaws.{length-chunks, getD-chunks, getD-second, length-tables, getD-tables}
 use Rattle.cipher.specs.Lea.{firstRounds}
 use Rattle.cipher.specs.Coding.{Set, ofHalves, coded}
-use Rattle.cipher.specs.Tables.{RoundCodings, RoundTables, FoldTables, addTable, turnTable, foldTable, addAt, turnAt}
+use Rattle.cipher.specs.Tables.{RoundCodings, RoundTables, FoldTables, addTable, turnTable, foldTable}
 use Rattle.cipher.specs.Chain.{messageSet, chainSet, roundCodings}
-use Rattle.cipher.specs.Book.{startPart, addPart, turnPart, roundPart, foldPart, groupPart, groupKey, bookGroup, bookRound, bookOf, groupAt, roundAt, Book}
-use Rattle.cipher.specs.Lengths.{startLength, groupLength, roundLength, roundsStart}
+use Rattle.cipher.specs.Book.{startPart, twoKinds, roundPart, groupPart, groupKey, bookGroup, bookRound, bookOf, groupAt, roundAt, Book}
+use Rattle.cipher.specs.Lengths.{addLength, turnLength, foldLength, startLength, groupLength, roundLength, roundsStart}
 
--- ---- lengths
+-- ---- the entries of a round and of a group
+
+-- 24 tables of one kind, then 24 of another: where the entries of each stand
+module _ (s : ℕ) (f : ℕ → ℕ → ℕ → ℕ) (u : ℕ) (g : ℕ → ℕ → ℕ → ℕ) where
+  pub kinds-length : length (twoKinds s f u g) ≡ 24 * s + 24 * u
+  unfolding twoKinds
+  kinds-length = length-append (tables 24 s f) (tables 24 u g) ∙ rw (length-tables 24 s f, length-tables 24 u g)
+
+  module _ (i j n : ℕ) (hi : i < 3) (hj : j < 8) where
+    inside : n < s → s * (8 * i + j) + n < 24 * s
+    inside hn =
+        let a : suc (8 * i + j) * s ≤ 24 * s = mul-le-mul-right s (omega arith) in
+        omega (arith, a, suc-mul (8 * i + j) s, mul-comm s (8 * i + j))
+
+    pub first-kind : n < s → getD (twoKinds s f u g) (s * (8 * i + j) + n) 0 ≡ f i j n
+    unfolding twoKinds
+    first-kind hn =
+        List·getD-append (tables 24 s f) (tables 24 u g) 0 (s * (8 * i + j) + n) (rw (length-tables 24 s f) (inside hn))
+        ∙ getD-tables 24 s f i j n hj (omega arith) hn
+
+    pub second-kind : n < u → getD (twoKinds s f u g) (24 * s + u * (8 * i + j) + n) 0 ≡ g i j n
+    unfolding twoKinds
+    second-kind hn =
+        getD-second (tables 24 s f) (tables 24 u g) (24 * s) (u * (8 * i + j) + n) (24 * s + u * (8 * i + j) + n) (length-tables 24 s f) (omega arith)
+        ∙ getD-tables 24 u g i j n hj (omega arith) hn
 
 module _ (c : RoundCodings) (k : List ℕ) where
-  add-size : (p : ℕ) → length (addPart c k p) ≡ 512
-  unfolding addPart
-  add-size p = length-tab 512 (addTable c k (p / 8) (p % 8))
-
-  turn-size : (p : ℕ) → length (turnPart c p) ≡ 256
-  unfolding turnPart
-  turn-size p = length-tab 256 (turnTable c (p / 8) (p % 8))
-
-  adds-size : length (chunks 24 (addPart c k)) ≡ 12288
-  adds-size = length-chunks (addPart c k) 512 add-size 24
-
-  turns-size : length (chunks 24 (turnPart c)) ≡ 6144
-  turns-size = length-chunks (turnPart c) 256 turn-size 24
-
   pub round-size : length (roundPart c k) ≡ roundLength
   unfolding roundPart
-  round-size = length-append (chunks 24 (addPart c k)) (chunks 24 (turnPart c)) ∙ rw (adds-size, turns-size)
+  round-size = kinds-length addLength (addTable c k) turnLength (turnTable c)
 
-  -- ---- the entries of a round
   pub round-made : RoundTables c k (roundPart c k)
-  unfolding roundPart addPart turnPart
-  round-made = record { adds = add; turns = turn }
-    where
-      add : (i j n : ℕ) → i < 3 → j < 8 → n < 512 → addAt (chunks 24 (addPart c k) ++ chunks 24 (turnPart c)) i j n ≡ addTable c k i j n
-      add i j n hi hj hn =
-          let e : 512 * (8 * i + j) + n ≡ (8 * i + j) * 512 + n = omega arith in
-          let a : (8 * i + j) / 8 ≡ i = omega arith in
-          let b : (8 * i + j) % 8 ≡ j = omega arith in
-          List·getD-append (chunks 24 (addPart c k)) (chunks 24 (turnPart c)) 0 (512 * (8 * i + j) + n) (rw adds-size (omega arith))
-          ∙ ap (λ (m : ℕ). getD (chunks 24 (addPart c k)) m 0) e
-          ∙ getD-chunks (addPart c k) 512 add-size 24 (8 * i + j) n (omega arith) hn
-          ∙ getD-tab 512 (addTable c k ((8 * i + j) / 8) ((8 * i + j) % 8)) n hn
-          ∙ rw (a, b)
-
-      turn : (i j n : ℕ) → i < 3 → j < 8 → n < 256 → turnAt (chunks 24 (addPart c k) ++ chunks 24 (turnPart c)) i j n ≡ turnTable c i j n
-      turn i j n hi hj hn =
-          let a : (8 * i + j) / 8 ≡ i = omega arith in
-          let b : (8 * i + j) % 8 ≡ j = omega arith in
-          getD-second (chunks 24 (addPart c k)) (chunks 24 (turnPart c)) 12288 ((8 * i + j) * 256 + n) (12288 + 256 * (8 * i + j) + n) adds-size (omega arith)
-          ∙ getD-chunks (turnPart c) 256 turn-size 24 (8 * i + j) n (omega arith) hn
-          ∙ getD-tab 256 (turnTable c ((8 * i + j) / 8) ((8 * i + j) % 8)) n hn
-          ∙ rw (a, b)
-
--- ---- the entries of a group
+  unfolding roundPart
+  round-made = record {
+    adds = first-kind addLength (addTable c k) turnLength (turnTable c);
+    turns = second-kind addLength (addTable c k) turnLength (turnTable c);
+  }
 
 module _ (S U S' : Set) (k : List ℕ) where
-  fold-size : (p : ℕ) → length (foldPart S U S' k p) ≡ 256
-  unfolding foldPart
-  fold-size p = length-tab 256 (foldTable S U S' k (p / 8) (p % 8))
-
   pub group-size : length (groupPart S U S' k) ≡ groupLength
   unfolding groupPart
-  group-size = length-chunks (foldPart S U S' k) 256 fold-size 32
+  group-size = length-tables 32 foldLength (foldTable S U S' k)
 
   pub group-made : FoldTables S U S' k (groupPart S U S' k)
-  unfolding groupPart foldPart
-  group-made w j n hw hj hn =
-      let e : 256 * (8 * w + j) + n ≡ (8 * w + j) * 256 + n = omega arith in
-      let a : (8 * w + j) / 8 ≡ w = omega arith in
-      let b : (8 * w + j) % 8 ≡ j = omega arith in
-      ap (λ (m : ℕ). getD (chunks 32 (foldPart S U S' k)) m 0) e
-      ∙ getD-chunks (foldPart S U S' k) 256 fold-size 32 (8 * w + j) n (omega arith) hn
-      ∙ getD-tab 256 (foldTable S U S' k ((8 * w + j) / 8) ((8 * w + j) % 8)) n hn
-      ∙ rw (a, b)
+  unfolding groupPart
+  group-made w j n hw hj hn = getD-tables 32 foldLength (foldTable S U S' k) w j n hj (omega arith) hn
 
 -- ---- a reader of a round, or of a group, reads no further
 

@@ -17,7 +17,7 @@ use Rattle.cipher.specs.Answers.{setChecked, chainChecked}
 use Rattle.cipher.specs.declared.size.KeySize.{KeySize}
 use Rattle.cipher.proofs.KeySizeLaws.{found-none, size-of-key}
 use Rattle.cipher.proofs.AnswerLaws.{length-refused, length-taken}
-use Rattle.cipher.proofs.ChainTests.{set-permutations, permutations-set, codings-tested, tested-codings, word-tested, tested-word, masks-tested, tested-masks}
+use Rattle.cipher.proofs.ChainTests.{set-permutations, permutations-set, codings-tested, tested-codings, words-tested, tested-words, masks-tested, tested-masks}
 
 -- a test that is passed only by what is not so, is not passed
 failed : {P : Type 0} (b : Bool) → (b ≡ true → P) → (P → ⊥) → not b ≡ true
@@ -66,7 +66,7 @@ module _ {A : Type 0} (ts : List (Bool × ℕ)) (refuse : ℕ → A) (go : A) wh
         rw (
           size-right (length ch) (chainLength z) h,
           passed (codingRuleHolds (rounds z) ch) (tested-codings (rounds z) ch c),
-          failed (wordRuleHolds (rounds z) ch) (word-tested (rounds z) ch) w,
+          failed (wordRuleHolds (rounds z) ch) (words-tested 0 3 (rounds z) ch) w,
         )
 
     pub chain-mask-refused : length ch ≡ chainLength z → CodingRule (rounds z) ch → WordRule (rounds z) ch → (MaskRule (rounds z) ch → ⊥)
@@ -76,7 +76,7 @@ module _ {A : Type 0} (ts : List (Bool × ℕ)) (refuse : ℕ → A) (go : A) wh
         rw (
           size-right (length ch) (chainLength z) h,
           passed (codingRuleHolds (rounds z) ch) (tested-codings (rounds z) ch c),
-          passed (wordRuleHolds (rounds z) ch) (tested-word (rounds z) ch w),
+          passed (wordRuleHolds (rounds z) ch) (tested-words 0 3 (rounds z) ch w),
           failed (maskRuleHolds (rounds z) ch) (masks-tested (rounds z) ch) m,
         )
 
@@ -86,7 +86,7 @@ module _ {A : Type 0} (ts : List (Bool × ℕ)) (refuse : ℕ → A) (go : A) wh
         rw (
           size-right (length ch) (chainLength z) (h .size),
           passed (codingRuleHolds (rounds z) ch) (tested-codings (rounds z) ch (h .codings)),
-          passed (wordRuleHolds (rounds z) ch) (tested-word (rounds z) ch (h .word3)),
+          passed (wordRuleHolds (rounds z) ch) (tested-words 0 3 (rounds z) ch (h .word3)),
           passed (maskRuleHolds (rounds z) ch) (tested-masks (rounds z) ch (h .masks)),
         )
 

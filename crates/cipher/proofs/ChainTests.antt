@@ -14,12 +14,13 @@ use Rattle.lists.specs.Every.{every}
 use Rattle.lists.proofs.EveryLaws.{and-true, true-and, every-all, all-every}
 use Rattle.lists.proofs.RefusalLaws.{Clear}
 use Rattle.cipher.specs.KeySize.{rounds, chainLength}
-use Rattle.cipher.specs.Coding.{OneToOne, Permutation, Permutations, codingAt, setOf}
-use Rattle.cipher.specs.Chain.{roundBytes, maskAt, maskIn, roundCodings, CodingRule, WordRule, MaskRule, Chain, LoneSet, isOneToOne, arePermutations, codingRuleHolds, wordRuleHolds, maskLimit, maskRuleHolds, setTests, chainTests}
+use Rattle.cipher.specs.Coding.{OneToOne, Permutation, Permutations, SameWord, codingAt, setOf}
+use Rattle.cipher.specs.Tables.{ValidCodings, ValidRound}
+use Rattle.cipher.specs.Chain.{roundBytes, maskAt, maskIn, roundCodings, CodingRule, SameWords, WordRule, MaskRule, Chain, LoneSet, isOneToOne, arePermutations, codingRuleHolds, wordKept, wordsKept, wordRuleHolds, maskLimit, maskRuleHolds, setTests, chainTests}
 use Rattle.cipher.specs.Lengths.{setLength}
 use Rattle.cipher.specs.declared.size.KeySize.{KeySize}
+use Rattle.cipher.proofs.Permutation.{once-ext}
 use Rattle.cipher.proofs.CodingLaws.{Agree}
-use Rattle.cipher.proofs.RoundLaw.{ValidRound}
 
 hold : (b : Bool) → b ≡ true → not b ≡ false
 hold b e = rw e
@@ -104,12 +105,38 @@ coding-in ch l k = λ i v. at v i
         let e : setLength * suc l + (16 * k + v) ≡ 16 * (32 * suc l + k) + v = omega arith in
         getD-drop (setLength * suc l) ch (16 * k + v) 0 ∙ ap (λ (n : ℕ). getD ch n 0) e
 
--- byte k of word 0 of set l, and of word 3 of the set after it
-abbrev front : List ℕ → ℕ → ℕ → ℕ
-front ch l k = getD (drop (setLength * suc l) ch) k 0
+-- word `to` of the set in t is coded as word `from` of the one in s exactly where `wordKept` says so
+module _ (from to : ℕ) (s t : List ℕ) where
+  pub kept-tested : wordKept from to s t ≡ true → SameWord from to (setOf s) (setOf t)
+  kept-tested e j v hj hv =
+      let a : 16 * (8 * to + j) + v ≡ 128 * to + (16 * j + v) = omega arith in
+      let b : 16 * (8 * from + j) + v ≡ 128 * from + (16 * j + v) = omega arith in
+      ap (λ (n : ℕ). getD t n 0) a
+      ∙ eqb-true (getD t (128 * to + (16 * j + v)) 0) (getD s (128 * from + (16 * j + v)) 0)
+      (every-all 128 (λ k. eqb (getD t (128 * to + k) 0) (getD s (128 * from + k) 0)) e (16 * j + v) (omega arith))
+      ∙ ap (λ (n : ℕ). getD s n 0) (sym b)
 
-abbrev third : List ℕ → ℕ → ℕ → ℕ
-third ch l k = getD (drop (setLength * suc (suc l)) ch) (128 * 3 + k) 0
+  pub tested-kept : SameWord from to (setOf s) (setOf t) → wordKept from to s t ≡ true
+  tested-kept h =
+      all-every 128 (λ k. eqb (getD t (128 * to + k) 0) (getD s (128 * from + k) 0)) (λ k hk.
+      let a : 16 * (8 * to + k / 16) + k % 16 ≡ 128 * to + k = omega arith in
+      let b : 16 * (8 * from + k / 16) + k % 16 ≡ 128 * from + k = omega arith in
+      eq-eqb (getD t (128 * to + k) 0) (getD s (128 * from + k) 0)
+      (ap (λ (n : ℕ). getD t n 0) (sym a) ∙ h (k / 16) (k % 16) (omega arith) (omega arith) ∙ ap (λ (n : ℕ). getD s n 0) b))
+
+-- so for all sets of a chain
+module _ (from to r : ℕ) (ch : List ℕ) where
+  pub words-tested : wordsKept from to r ch ≡ true → SameWords from to r ch
+  unfolding wordsKept
+  words-tested t l hl =
+      kept-tested from to (drop (setLength * suc l) ch) (drop (setLength * suc (suc l)) ch)
+      (every-all r (λ l. wordKept from to (drop (setLength * suc l) ch) (drop (setLength * suc (suc l)) ch)) t l hl)
+
+  pub tested-words : SameWords from to r ch → wordsKept from to r ch ≡ true
+  unfolding wordsKept
+  tested-words h =
+      all-every r (λ l. wordKept from to (drop (setLength * suc l) ch) (drop (setLength * suc (suc l)) ch)) (λ l hl.
+      tested-kept from to (drop (setLength * suc l) ch) (drop (setLength * suc (suc l)) ch) (h l hl))
 
 module _ (r : ℕ) (ch : List ℕ) where
   pub codings-tested : codingRuleHolds r ch ≡ true → CodingRule r ch
@@ -140,28 +167,6 @@ module _ (r : ℕ) (ch : List ℕ) where
           subst (λ (f : ℕ → ℕ). Permutation f) (coding-in ch m (8 * (k / 8 % 4) + k % 8) ∙ ap (λ (n : ℕ). codingAt ch n) a)
           (h .sets m (omega arith) (k / 8 % 4) (k % 8) (omega arith) (omega arith))
 
-  pub word-tested : wordRuleHolds r ch ≡ true → WordRule r ch
-  unfolding wordRuleHolds
-  word-tested t l j v hl hj hv =
-      let e = eqb-true (third ch l (16 * j + v)) (front ch l (16 * j + v))
-      (every-all 128 (λ k. eqb (third ch l k) (front ch l k))
-      (every-all r (λ l. every 128 (λ k. eqb (third ch l k) (front ch l k))) t l hl) (16 * j + v) (omega arith)) in
-      let a : 16 * (8 * 3 + j) + v ≡ 128 * 3 + (16 * j + v) = omega arith in
-      let b : 16 * (8 * 0 + j) + v ≡ 16 * j + v = omega arith in
-      ap (λ (n : ℕ). getD (drop (setLength * suc (suc l)) ch) n 0) a ∙ e ∙ ap (λ (n : ℕ). getD (drop (setLength * suc l) ch) n 0) (sym b)
-
-  pub tested-word : WordRule r ch → wordRuleHolds r ch ≡ true
-  unfolding wordRuleHolds
-  tested-word h =
-      all-every r (λ l. every 128 (λ k. eqb (third ch l k) (front ch l k))) (λ l hl.
-      all-every 128 (λ k. eqb (third ch l k) (front ch l k)) (λ k hk.
-      let a : 16 * (8 * 3 + k / 16) + k % 16 ≡ 128 * 3 + k = omega arith in
-      let b : 16 * (8 * 0 + k / 16) + k % 16 ≡ k = omega arith in
-      eq-eqb (third ch l k) (front ch l k)
-      (ap (λ (n : ℕ). getD (drop (setLength * suc (suc l)) ch) n 0) (sym a)
-      ∙ h l (k / 16) (k % 16) hl (omega arith) (omega arith)
-      ∙ ap (λ (n : ℕ). getD (drop (setLength * suc l) ch) n 0) b)))
-
   limit-le : (k : ℕ) → maskLimit k ≤ 2
   limit-le k = go (eqb (k % 8) 0)
     where
@@ -181,13 +186,13 @@ module _ (r : ℕ) (ch : List ℕ) where
           ltb-true (maskAt r ch l k) (maskLimit k)
           (every-all 24 (λ k. ltb (maskAt r ch l k) (maskLimit k)) (every-all r (λ l. every 24 (λ k. ltb (maskAt r ch l k) (maskLimit k))) t l hl) k hk)
 
-      bit : (l i j : ℕ) → l < r → i < 3 → j < 8 → maskIn r ch l i j < 2
+      bit : (l i j : ℕ) → l < r → i < 3 → j < 8 → maskAt r ch l (8 * i + j) < 2
       bit l i j hl hi hj = omega (arith, under l (8 * i + j) hl (omega arith), limit-le (8 * i + j))
 
-      start : (l i : ℕ) → l < r → i < 3 → maskIn r ch l i 0 ≡ 0
+      start : (l i : ℕ) → l < r → i < 3 → maskAt r ch l (8 * i) ≡ 0
       start l i hl hi =
-          let e : maskLimit (8 * i + 0) ≡ 1 = rw (eq-eqb ((8 * i + 0) % 8) 0 (omega arith)) in
-          let u = under l (8 * i + 0) hl (omega arith) in
+          let e : maskLimit (8 * i) ≡ 1 = rw (eq-eqb (8 * i % 8) 0 (omega arith)) in
+          let u = under l (8 * i) hl (omega arith) in
           omega arith
 
   pub tested-masks : MaskRule r ch → maskRuleHolds r ch ≡ true
@@ -199,7 +204,7 @@ module _ (r : ℕ) (ch : List ℕ) where
     where
       under : (l k : ℕ) → l < r → k < 24 → Dec (k % 8 ≡ 0) → maskAt r ch l k < maskLimit k
       under l k hl hk (yes e) =
-          let a : 8 * (k / 8) + 0 ≡ k = omega arith in
+          let a : 8 * (k / 8) ≡ k = omega arith in
           let b = h .firsts l (k / 8) hl (omega arith) in
           rw (eq-eqb (k % 8) 0 e) (subst (λ (n : ℕ). maskAt r ch l n < 1) a (rw b (lit< tt)))
       under l k hl hk (no e) =
@@ -207,17 +212,23 @@ module _ (r : ℕ) (ch : List ℕ) where
           (subst (λ (n : ℕ). maskAt r ch l n < 2) (place k) (h .bits l (k / 8) (k % 8) hl (omega arith) (omega arith)))
 
   -- what a round of the tables asks of the chain
-  pub valid-round : CodingRule r ch → WordRule r ch → MaskRule r ch → (l : ℕ) → l < r → ValidRound (roundCodings r ch l)
+  pub valid-codings : CodingRule r ch → MaskRule r ch → (l : ℕ) → l < r → ValidCodings (roundCodings r ch l)
   unfolding roundCodings
-  valid-round c w m l h = record {
+  valid-codings c m l h = record {
     before-permute = c .sets l (omega arith);
     after-permute = c .sets (suc l) h;
     middle-permute = λ i j. c .middles l i j h;
-    word3 = λ j v. w l j v h;
-    mask-bit = λ i j. m .bits l i j h;
-    mask-first = λ i. m .firsts l i h;
-    mask-next = λ i j hi hj. refl;
+    mask-bit = λ i j hi hj. bit i j hi hj;
+    mask-first = λ i hi. refl;
+    mask-next = λ i j hi hj. ap (λ (k : ℕ). maskAt r ch l (8 * i + k)) (omega arith);
   }
+    where
+      bit : (i j : ℕ) → i < 3 → j < 8 → maskIn r ch l i j < 2
+      bit i zero hi hj = lit< tt
+      bit i (suc j) hi hj = m .bits l i (suc j) h hi hj
+
+  pub valid-round : CodingRule r ch → WordRule r ch → MaskRule r ch → (l : ℕ) → l < r → ValidRound (roundCodings r ch l)
+  valid-round c w m l h = record { codings = valid-codings c m l h; word3 = unfold roundCodings in w l h }
 
 -- the tests 2 to 5 let through the valid chains and no others
 pub chain-tested : (z : KeySize) (ch : List ℕ) → Clear (chainTests z ch) → Chain z ch
@@ -225,7 +236,7 @@ unfolding chainTests
 chain-tested z ch c = record {
   size = eqb-true (length ch) (chainLength z) (not-false (eqb (length ch) (chainLength z)) (c .0));
   codings = codings-tested (rounds z) ch (not-false (codingRuleHolds (rounds z) ch) (c .1 .0));
-  word3 = word-tested (rounds z) ch (not-false (wordRuleHolds (rounds z) ch) (c .1 .1 .0));
+  word3 = words-tested 0 3 (rounds z) ch (not-false (wordRuleHolds (rounds z) ch) (c .1 .1 .0));
   masks = masks-tested (rounds z) ch (not-false (maskRuleHolds (rounds z) ch) (c .1 .1 .1 .0));
 }
 
@@ -236,7 +247,7 @@ tested-chain z ch h = (
   (
     hold (codingRuleHolds (rounds z) ch) (tested-codings (rounds z) ch (h .codings)),
     (
-      hold (wordRuleHolds (rounds z) ch) (tested-word (rounds z) ch (h .word3)),
+      hold (wordRuleHolds (rounds z) ch) (tested-words 0 3 (rounds z) ch (h .word3)),
       (hold (maskRuleHolds (rounds z) ch) (tested-masks (rounds z) ch (h .masks)), tt),
     ),
   ),
@@ -249,8 +260,5 @@ lone-agree s w j v hw hj hv = getD-take setLength s (16 * (8 * w + j) + v) 0 (om
 pub lone-set : (s : List ℕ) → setLength ≤ length s → Permutations (setOf s) → LoneSet (take setLength s)
 lone-set s h p = record {
   size = length-take-le setLength s h;
-  codings = λ w j hw hj. record {
-    low = λ v hv. rw (lone-agree s w j v hw hj hv) (p w j hw hj .low v hv);
-    once = λ v u hv hu e. p w j hw hj .once v u hv hu (sym (lone-agree s w j v hw hj hv) ∙ e ∙ lone-agree s w j u hw hj hu);
-  };
+  codings = λ w j hw hj. once-ext 16 16 (setOf s w j) (setOf (take setLength s) w j) (λ v hv. sym (lone-agree s w j v hw hj hv)) (p w j hw hj);
 }

@@ -90,16 +90,16 @@ module _ (f : ℕ → ℕ) where
               ∙ and-right (every i (λ k. not (eqb (f k) y))) (not (eqb (f i) y)) (ap not (ne-eqb (f i) y (λ z. d (sym z ∙ e))))
               ∙ sym (every-more i (λ k. not (eqb (f k) y)))
 
--- ---- the word 3 rule, between parts of a chain as the code lends them
+-- ---- a word rule, between parts of a chain as the code lends them
 
-pub word-turn : (ch : List ℕ) (l : ℕ) (b : Bool)
-    → wordKept (take (length ch - setLength * (l + 1)) (drop (setLength * (l + 1)) ch)) (take (length ch - setLength * (l + 2)) (drop (setLength * (l + 2)) ch)) ≡ b
-    → wordKept (drop (setLength * suc l) ch) (drop (setLength * suc (suc l)) ch) ≡ b
-word-turn ch l b h =
+pub word-turn : (from to : ℕ) (ch : List ℕ) (l : ℕ) (b : Bool)
+    → wordKept from to (take (length ch - setLength * (l + 1)) (drop (setLength * (l + 1)) ch)) (take (length ch - setLength * (l + 2)) (drop (setLength * (l + 2)) ch)) ≡ b
+    → wordKept from to (drop (setLength * suc l) ch) (drop (setLength * suc (suc l)) ch) ≡ b
+word-turn from to ch l b h =
     let p : l + 1 ≡ suc l = omega arith in
     let q : l + 2 ≡ suc (suc l) = omega arith in
-    (λ i. wordKept (drop (setLength * sym p i) ch) (drop (setLength * sym q i) ch))
-    ∙ (λ i. wordKept (sym (part-end ch (setLength * (l + 1))) i) (sym (part-end ch (setLength * (l + 2))) i))
+    (λ i. wordKept from to (drop (setLength * sym p i) ch) (drop (setLength * sym q i) ch))
+    ∙ (λ i. wordKept from to (sym (part-end ch (setLength * (l + 1))) i) (sym (part-end ch (setLength * (l + 2))) i))
     ∙ h
 
 -- ---- the answers for a lone set
@@ -171,12 +171,6 @@ module _ {A : Type 0} (us : List (Bool × ℕ)) (refuse : ℕ → A) (go : A) wh
       each true k d = ap refuse d
       each false k d = k d
 
-  -- and where there is none, those decide
-  pub clear-taken : (ts : List (Bool × ℕ)) → Clear ts → first (ts ++ us) refuse go ≡ first us refuse go
-  unfolding first
-  clear-taken [] c = refl
-  clear-taken (t ∷ ts) c = rw (c .0) (clear-taken ts (c .1))
-
 set-numbered : (s : List ℕ) → Numbered (setTests s)
 unfolding setTests
 set-numbered s = (lit< tt, (lit< tt, tt))
@@ -189,9 +183,5 @@ chain-numbered z ch = (lit< tt, (lit< tt, (lit< tt, (lit< tt, tt))))
 pub set-checked : (s : List ℕ) → first (setTests s) (λ q. q) 0 ≡ 0 → LoneSet s
 set-checked s e = set-tested s (told-clear (setTests s) (set-numbered s) e)
 
-module _ (z : KeySize) (ch : List ℕ) (e : first (chainTests z ch) (λ q. q) 0 ≡ 0) where
-  pub chain-checked : Chain z ch
-  chain-checked = chain-tested z ch (told-clear (chainTests z ch) (chain-numbered z ch) e)
-
-  pub chain-passed : {A : Type 0} (us : List (Bool × ℕ)) (refuse : ℕ → A) (go : A) → first (chainTests z ch ++ us) refuse go ≡ first us refuse go
-  chain-passed us refuse go = clear-taken us refuse go (chainTests z ch) (told-clear (chainTests z ch) (chain-numbered z ch) e)
+pub chain-checked : (z : KeySize) (ch : List ℕ) → first (chainTests z ch) (λ q. q) 0 ≡ 0 → Chain z ch
+chain-checked z ch e = chain-tested z ch (told-clear (chainTests z ch) (chain-numbered z ch) e)

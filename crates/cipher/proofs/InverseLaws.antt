@@ -63,9 +63,6 @@ coded-bytes s b h =
     let e : getD b k 0 / 16 % 16 ≡ getD b k 0 / 16 = omega arith in
     ap (λ (x : ℕ). getD s (32 * k + getD b k 0 % 16) 0 + 16 * getD s (32 * k + 16 + x) 0) e)
 
-pub decoded-bytes : (s b : List ℕ) → Bytes b → decoded (setOf s) b ≡ tab 16 (codedByte (inverted 32 s) b)
-decoded-bytes s b h = decoded-inverted s b ∙ coded-bytes (inverted 32 s) b h
-
 -- ---- the bytes of a set of permutations, and of that set inverted, are half bytes
 
 pub low-set : (s : List ℕ) → Permutations (setOf s) → LowSet s

@@ -31,7 +31,7 @@ keyed-word : (x k y l : ℕ) → keyed x k y l < 2 ^ 32
 unfolding keyed
 keyed-word x k y l = add-word (xor x k) (xor y l)
 
-unkeyed-word : (s x k l : ℕ) → l < 2 ^ 32 → unkeyed s x k l < 2 ^ 32
+pub unkeyed-word : (s x k l : ℕ) → l < 2 ^ 32 → unkeyed s x k l < 2 ^ 32
 unfolding unkeyed
 unkeyed-word s x k l h = xor-word (sub s (xor x k)) l (sub-word s (xor x k)) h
 

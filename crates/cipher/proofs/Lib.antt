@@ -13,10 +13,13 @@ pub mod ImageLaws
 pub mod RippleAdd
 pub mod TurnDigits
 pub mod TableLaws
+pub mod TableRipple
+pub mod DecodedWords
 pub mod RoundLaw
 pub mod RoundsLaw
 pub mod FoldLaw
 pub mod ChainTests
+pub mod ChainPartLaws
 pub mod ChainRefusals
 pub mod CheckLaws
 pub mod BookLaw

@@ -163,30 +163,9 @@ pub decode-ext : (f g : ℕ → ℕ) (v : ℕ) → ((i : ℕ) → i < 16 → f i
 unfolding decode
 decode-ext f g v h = place-ext f g 16 v h
 
--- ---- entry by entry: one more keeps a function one to one exactly if it is low and new
-
-pub once-zero : (m : ℕ) (f : ℕ → ℕ) → OneToOne zero m f
-once-zero m f = record { low = λ i h. absurd (not-suc-le-zero h); once = λ i j h k e. absurd (not-suc-le-zero h) }
-
-pub once-more : (n m : ℕ) (f : ℕ → ℕ) → OneToOne n m f → f n < m → ((i : ℕ) → i < n → f i ≢ f n) → OneToOne (suc n) m f
-once-more n m f h l new = record {
-  low = λ i k. low i (eq-or-lt-of-le (le-of-suc-le-suc k));
-  once = λ i j k g e. once i j (eq-or-lt-of-le (le-of-suc-le-suc k)) (eq-or-lt-of-le (le-of-suc-le-suc g)) e;
+-- so does being one to one
+pub once-ext : (n m : ℕ) (f g : ℕ → ℕ) → ((i : ℕ) → i < n → f i ≡ g i) → OneToOne n m f → OneToOne n m g
+once-ext n m f g e h = record {
+  low = λ i l. rw (sym (e i l)) (h .low i l);
+  once = λ i k l a d. h .once i k l a (e i l ∙ d ∙ sym (e k a));
 }
-  where
-    low : (i : ℕ) → (i ≡ n) ⊎ (i < n) → f i < m
-    low i (inl e) = rw e l
-    low i (inr k) = h .low i k
-
-    once : (i j : ℕ) → (i ≡ n) ⊎ (i < n) → (j ≡ n) ⊎ (j < n) → f i ≡ f j → i ≡ j
-    once i j (inl p) (inl q) e = p ∙ sym q
-    once i j (inl p) (inr q) e = absurd (new j q (sym e ∙ ap f p))
-    once i j (inr p) (inl q) e = absurd (new i p (e ∙ ap f q))
-    once i j (inr p) (inr q) e = h .once i j p q e
-
-pub once-less : (n m : ℕ) (f : ℕ → ℕ) → OneToOne (suc n) m f → OneToOne n m f × (f n < m) × ((i : ℕ) → i < n → f i ≢ f n)
-once-less n m f h = (
-  record { low = λ i k. h .low i (omega arith); once = λ i j k g. h .once i j (omega arith) (omega arith) },
-  h .low n (le-refl (suc n)),
-  λ i k e. let z = h .once i n (omega arith) (le-refl (suc n)) e in omega arith,
-)

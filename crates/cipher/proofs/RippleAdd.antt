@@ -22,14 +22,14 @@ unfolding carryInto
 carry-lt c a b zero h = h
 carry-lt c a b (suc j) h = carry-lt ((a % 16 + b % 16 + c) / 16) (a / 16) (b / 16) j (omega arith)
 
-pub half-sum : (c a b j : ℕ) → halfByte (a + b + c) j ≡ (halfByte a j + halfByte b j + carryInto c a b j) % 16
+pub sum-half : (c a b j : ℕ) → halfByte (a + b + c) j ≡ (halfByte a j + halfByte b j + carryInto c a b j) % 16
 unfolding carryInto halfByte
-half-sum c a b zero = omega arith
-half-sum c a b (suc j) =
+sum-half c a b zero = omega arith
+sum-half c a b (suc j) =
     let e : (a + b + c) / 16 ≡ a / 16 + b / 16 + (a % 16 + b % 16 + c) / 16 = omega arith in
-    rw e (half-sum ((a % 16 + b % 16 + c) / 16) (a / 16) (b / 16) j)
+    rw e (sum-half ((a % 16 + b % 16 + c) / 16) (a / 16) (b / 16) j)
 
 -- the same for the sum of words
 pub half-add : (a b j : ℕ) → j < 8 → halfByte (add a b) j ≡ (halfByte a j + halfByte b j + carryInto 0 a b j) % 16
 unfolding add
-half-add a b j h = rw (half-mod 8 (a + b) j h, ← half-sum 0 a b j, add-zero (a + b))
+half-add a b j h = rw (half-mod 8 (a + b) j h, ← sum-half 0 a b j, add-zero (a + b))

@@ -8,10 +8,10 @@ use lib.ListN.{getD}
 use Rattle.cipher.specs.Schedule.{words4}
 use Rattle.cipher.specs.Lea.{round, forward, bytes, firstRounds}
 use Rattle.cipher.specs.Coding.{Set, Permutations, decoded}
-use Rattle.cipher.specs.Tables.{RoundCodings, RoundTables, tableRound, tableRounds}
+use Rattle.cipher.specs.Tables.{RoundCodings, ValidRound, RoundTables, tableRound, tableRounds}
 use Rattle.cipher.proofs.LeaLaws.{bytes-words}
 use Rattle.cipher.proofs.CodingLaws.{block-decoded}
-use Rattle.cipher.proofs.RoundLaw.{ValidRound, round-law}
+use Rattle.cipher.proofs.RoundLaw.{round-law}
 
 -- r rounds: round l goes from set l to set l + 1, by the tables t l under row l
 module _ (r : ℕ) (S : ℕ → Set) (c : ℕ → RoundCodings) (rows : List (List ℕ)) (t : ℕ → List ℕ)

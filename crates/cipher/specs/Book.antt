@@ -2,9 +2,9 @@
 -- "Book"). All is said of any rows and any number r of rounds.
 use mathlib.Core.Path.{_≡_}
 use mathlib.Core.List.{List, [], _++_}
-use Prim.Native.Nat.{ℕ, zero, suc, _+_, _*_, _/_, _%_, _<_}
+use Prim.Native.Nat.{ℕ, zero, suc, _+_, _*_, _<_}
 use lib.ListN.{length, getD, take, drop}
-use Rattle.lists.specs.Tabulation.{tab, chunks}
+use Rattle.lists.specs.Tabulation.{chunks, tables}
 use Rattle.lists.specs.Blocks.{zeros}
 use Rattle.cipher.specs.Lengths.{addLength, turnLength, foldLength, startLength, groupLength, roundLength, roundsStart}
 use Rattle.cipher.specs.Lea.{firstRounds}
@@ -19,22 +19,17 @@ use Rattle.cipher.specs.Chain.{messageSet, chainSet, roundCodings}
 unfoldable pub startPart : ℕ → List ℕ → List ℕ
 startPart r ch = coded (chainSet ch r) zeros
 
--- add table p and turn table p of a round, p = 8i + j, and the round: all 24 of the first kind, then of the second
-unfoldable pub addPart : RoundCodings → List ℕ → ℕ → List ℕ
-addPart c k p = tab addLength (addTable c k (p / 8) (p % 8))
+-- the tables of a round: 24 of s entries each, by the rule f, then 24 of u entries each, by the rule g
+unfoldable pub twoKinds : ℕ → (ℕ → ℕ → ℕ → ℕ) → ℕ → (ℕ → ℕ → ℕ → ℕ) → List ℕ
+twoKinds s f u g = tables 24 s f ++ tables 24 u g
 
-unfoldable pub turnPart : RoundCodings → ℕ → List ℕ
-turnPart c p = tab turnLength (turnTable c (p / 8) (p % 8))
-
+-- a round: the add tables, then the turn tables
 unfoldable pub roundPart : RoundCodings → List ℕ → List ℕ
-roundPart c k = chunks 24 (addPart c k) ++ chunks 24 (turnPart c)
+roundPart c k = twoKinds addLength (addTable c k) turnLength (turnTable c)
 
--- fold table p of a group, p = 8w + j, and the group of 32
-unfoldable pub foldPart : Set → Set → Set → List ℕ → ℕ → List ℕ
-foldPart S U S' k p = tab foldLength (foldTable S U S' k (p / 8) (p % 8))
-
+-- a group of 32 fold tables
 unfoldable pub groupPart : Set → Set → Set → List ℕ → List ℕ
-groupPart S U S' k = chunks 32 (foldPart S U S' k)
+groupPart S U S' k = tables 32 foldLength (foldTable S U S' k)
 
 -- the key block of group g: zeros, K1, K2
 unfoldable pub groupKey : (List ℕ → List ℕ) → ℕ → List ℕ

@@ -4,13 +4,13 @@
 use mathlib.Core.Path.{_≡_}
 use mathlib.Core.Bool.{Bool, not, cond, _&&_}
 use mathlib.Core.List.{List, [], _∷_}
-use Prim.Native.Nat.{ℕ, suc, _+_, _*_, _%_, _≤_, _<_}
+use Prim.Native.Nat.{ℕ, zero, suc, _+_, _*_, _%_, _≤_, _<_}
 use lib.Dec.{ltb, eqb}
 use lib.ListN.{length, getD, drop}
 use Rattle.lists.specs.Every.{every}
 use Rattle.cipher.specs.KeySize.{rounds, chainLength}
 use Rattle.cipher.specs.Lengths.{setLength, wordLength, middlesLength, roundCodingsLength}
-use Rattle.cipher.specs.Coding.{Permutation, Permutations, Set, codingAt, setOf}
+use Rattle.cipher.specs.Coding.{Permutation, Permutations, Set, SameWord, codingAt, setOf}
 use Rattle.cipher.specs.Tables.{RoundCodings}
 use Rattle.cipher.specs.declared.size.KeySize.{KeySize}
 
@@ -31,17 +31,28 @@ roundBytes r ch l = drop (setLength * (r + 2) + roundCodingsLength * l) ch
 abbrev pub middleSet : ℕ → List ℕ → ℕ → Set
 middleSet r ch l = setOf (roundBytes r ch l)
 
--- and 24 masks, a byte each: the one at place k
+-- and 24 masks, a byte each. Of the bytes s for a round: the mask at place k
+abbrev pub maskByte : List ℕ → ℕ → ℕ
+maskByte s k = getD s (middlesLength + k) 0
+
+-- the mask of the carry into half byte j of sum i, at place 8i + j; the carry into half byte 0 has none
+abbrev pub maskInto : List ℕ → ℕ → ℕ → ℕ
+maskInto s i zero = 0
+maskInto s i (suc j) = maskByte s (8 * i + suc j)
+
+-- the mask of the carry out of half byte j of sum i: that of the next half byte, counted mod 8
+abbrev pub maskOutOf : List ℕ → ℕ → ℕ → ℕ
+maskOutOf s i j = maskByte s (8 * i + suc j % 8)
+
+-- the same of the chain's round l
 abbrev pub maskAt : ℕ → List ℕ → ℕ → ℕ → ℕ
-maskAt r ch l k = getD (roundBytes r ch l) (middlesLength + k) 0
+maskAt r ch l k = maskByte (roundBytes r ch l) k
 
--- the mask of the carry into half byte j of sum i stands at place 8i + j
 abbrev pub maskIn : ℕ → List ℕ → ℕ → ℕ → ℕ → ℕ
-maskIn r ch l i j = maskAt r ch l (8 * i + j)
+maskIn r ch l i j = maskInto (roundBytes r ch l) i j
 
--- the carry out of half byte j goes into the next, so its mask is the next one
 abbrev pub maskOut : ℕ → List ℕ → ℕ → ℕ → ℕ → ℕ
-maskOut r ch l i j = maskAt r ch l (8 * i + suc j)
+maskOut r ch l i j = maskOutOf (roundBytes r ch l) i j
 
 -- all that the tables of round l are built from
 unfoldable pub roundCodings : ℕ → List ℕ → ℕ → RoundCodings
@@ -61,14 +72,18 @@ pub record CodingRule (r : ℕ) (ch : List ℕ) : Type 0 where
   pub sets : (l : ℕ) → l ≤ r → Permutations (chainSet ch l)
   pub middles : (l i j : ℕ) → l < r → i < 3 → j < 8 → Permutation (middleSet r ch l i j)
 
--- the word 3 rule: after a round, word 3 is coded as word 0 was before it
-abbrev pub WordRule : ℕ → List ℕ → Type 0
-WordRule r ch = (l j v : ℕ) → l < r → j < 8 → v < 16 → chainSet ch (suc l) 3 j v ≡ chainSet ch l 0 j v
+-- after each round, word `to` is coded as word `from` was before it
+abbrev pub SameWords : ℕ → ℕ → ℕ → List ℕ → Type 0
+SameWords from to r ch = (l : ℕ) → l < r → SameWord from to (chainSet ch l) (chainSet ch (suc l))
 
--- masks are bits, and none is set for the carry into half byte 0
+-- the word 3 rule: word 3 is coded as word 0 was
+abbrev pub WordRule : ℕ → List ℕ → Type 0
+WordRule r ch = SameWords 0 3 r ch
+
+-- masks are bits, and none is set where j is 0
 pub record MaskRule (r : ℕ) (ch : List ℕ) : Type 0 where
-  pub bits : (l i j : ℕ) → l < r → i < 3 → j < 8 → maskIn r ch l i j < 2
-  pub firsts : (l i : ℕ) → l < r → i < 3 → maskIn r ch l i 0 ≡ 0
+  pub bits : (l i j : ℕ) → l < r → i < 3 → j < 8 → maskAt r ch l (8 * i + j) < 2
+  pub firsts : (l i : ℕ) → l < r → i < 3 → maskAt r ch l (8 * i) ≡ 0
 
 -- a valid chain for a key of size z
 pub record Chain (z : KeySize) (ch : List ℕ) : Type 0 where
@@ -96,12 +111,17 @@ arePermutations n s = every n (λ k. isOneToOne 16 16 (codingAt s k))
 unfoldable pub codingRuleHolds : ℕ → List ℕ → Bool
 codingRuleHolds r ch = arePermutations (32 * (r + 2)) ch && every r (λ l. arePermutations 24 (roundBytes r ch l))
 
--- word 3 of the set in `after` is coded as word 0 of the one in `before`: a word has eight codings
-abbrev pub wordKept : List ℕ → List ℕ → Bool
-wordKept before after = every wordLength (λ k. eqb (getD after (wordLength * 3 + k) 0) (getD before k 0))
+-- word `to` of the set in `after` is coded as word `from` of the one in `before`: a word has eight codings
+abbrev pub wordKept : ℕ → ℕ → List ℕ → List ℕ → Bool
+wordKept from to before after = every wordLength (λ k. eqb (getD after (wordLength * to + k) 0) (getD before (wordLength * from + k) 0))
 
-unfoldable pub wordRuleHolds : ℕ → List ℕ → Bool
-wordRuleHolds r ch = every r (λ l. wordKept (drop (setLength * suc l) ch) (drop (setLength * suc (suc l)) ch))
+-- so between all sets of a chain of r rounds
+unfoldable pub wordsKept : ℕ → ℕ → ℕ → List ℕ → Bool
+wordsKept from to r ch = every r (λ l. wordKept from to (drop (setLength * suc l) ch) (drop (setLength * suc (suc l)) ch))
+
+-- the word 3 rule
+abbrev pub wordRuleHolds : ℕ → List ℕ → Bool
+wordRuleHolds r ch = wordsKept 0 3 r ch
 
 -- what the mask at place k must be below
 abbrev pub maskLimit : ℕ → ℕ
@@ -109,7 +129,7 @@ maskLimit k = cond (eqb (k % 8) 0) 1 2
 
 -- the masks of a round, whose bytes s begins with
 abbrev pub masksHold : List ℕ → Bool
-masksHold s = every 24 (λ k. ltb (getD s (middlesLength + k) 0) (maskLimit k))
+masksHold s = every 24 (λ k. ltb (maskByte s k) (maskLimit k))
 
 unfoldable pub maskRuleHolds : ℕ → List ℕ → Bool
 maskRuleHolds r ch = every r (λ l. masksHold (roundBytes r ch l))

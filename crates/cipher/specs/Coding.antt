@@ -37,6 +37,10 @@ Set = ℕ → ℕ → ℕ → ℕ
 abbrev pub Permutations : Set → Type 0
 Permutations S = (w j : ℕ) → w < 4 → j < 8 → Permutation (S w j)
 
+-- word `to` of the set S' is coded as word `from` of the set S
+abbrev pub SameWord : ℕ → ℕ → Set → Set → Type 0
+SameWord from to S S' = (j v : ℕ) → j < 8 → v < 16 → S' to j v ≡ S from j v
+
 -- where codings lie in bytes s, one after another and 16 bytes each: what coding k sends v to
 abbrev pub codingAt : List ℕ → ℕ → ℕ → ℕ
 codingAt s k v = getD s (codingLength * k + v) 0

@@ -9,7 +9,7 @@ use lib.Dec.{ltb}
 use lib.ListN.{getD}
 use Rattle.lists.specs.HalfBytes.{halfByte}
 use Rattle.cipher.specs.Lengths.{addLength, turnLength, foldLength, addsLength}
-use Rattle.cipher.specs.Coding.{Set, decode, blockHalf, ofHalves}
+use Rattle.cipher.specs.Coding.{Permutation, Permutations, Set, SameWord, decode, blockHalf, ofHalves}
 
 -- ---- an entry of a single table (01, "Book")
 
@@ -51,6 +51,21 @@ pub record RoundCodings : Type 0 where
   pub middle : Set
   pub maskIn : ℕ → ℕ → ℕ
   pub maskOut : ℕ → ℕ → ℕ
+
+-- what a round of tables asks of its codings and masks, besides a word rule: permutations; masks that are bits, none for the carry
+-- into half byte 0, and the mask of the carry out of a half byte is that of the carry into the next
+pub record ValidCodings (c : RoundCodings) : Type 0 where
+  pub before-permute : Permutations (c .before)
+  pub after-permute : Permutations (c .after)
+  pub middle-permute : (i j : ℕ) → i < 3 → j < 8 → Permutation (c .middle i j)
+  pub mask-bit : (i j : ℕ) → i < 3 → j < 8 → c .maskIn i j < 2
+  pub mask-first : (i : ℕ) → i < 3 → c .maskIn i 0 ≡ 0
+  pub mask-next : (i j : ℕ) → i < 3 → j < 7 → c .maskOut i j ≡ c .maskIn i (suc j)
+
+-- and with the word 3 rule (01's term): after the round, word 3 is coded as word 0 was before it
+pub record ValidRound (c : RoundCodings) : Type 0 where
+  pub codings : ValidCodings c
+  pub word3 : SameWord 0 3 (c .before) (c .after)
 
 -- entry n of add table (i, j) of a round, under its row k of round keys
 unfoldable pub addTable : RoundCodings → List ℕ → ℕ → ℕ → ℕ → ℕ

@@ -2,7 +2,7 @@
 // terms). Each rule is tested by a function of its own; the checks ask for the rules in the order of
 // the refusals.
 ghost use mathlib.Core.Path.{_≡_};
-ghost use Prim.Native.Nat.{_+_, _*_, _≤_};
+ghost use Prim.Native.Nat.{_+_, _*_, _<_, _≤_};
 ghost use lib.ListN.{length};
 ghost use Rattle.cipher.specs.Lengths.{codingLength, roundCodingsLength, setLength};
 ghost use Rattle.lists.specs.Refusals.{first};
@@ -77,28 +77,28 @@ fn codings_permute(chain: &[u8], r: usize) -> bool
     middles_permute(chain, r)
 }
 
-// Whether word 3 of the set in after is coded as word 0 of the set in before.
-fn word_kept(before: &[u8], after: &[u8]) -> bool
-    requires { ⌜ (setLength ≤ length (now before)) × (setLength ≤ length (now after)) ⌝ }
-    ensures { λ r. ⌜ r ≡ C.wordKept (now (before .entry)) (now (after .entry)) ⌝ }
+// Whether word `to` of the set in after is coded as word `from` of the set in before.
+pub fn word_kept(before: &[u8], from: usize, after: &[u8], to: usize) -> bool
+    requires { ⌜ (from < 4) × (to < 4) × (setLength ≤ length (now before)) × (setLength ≤ length (now after)) ⌝ }
+    ensures { λ r. ⌜ r ≡ C.wordKept from to (now (before .entry)) (now (after .entry)) ⌝ }
 {
     for k in 0..lengths::WORD {
-        if after[lengths::WORD * 3 + k] != before[k] {
+        if after[lengths::WORD * to + k] != before[lengths::WORD * from + k] {
             return false;
         }
     }
     true
 }
 
-// Whether the word 3 rule holds between all sets of a chain of r rounds.
-fn words_kept(chain: &[u8], r: usize) -> bool
-    requires { ⌜ (r ≤ 32) × (1024 + 920 * r ≤ length (now chain)) ⌝ }
-    ensures { λ b. ⌜ b ≡ C.wordRuleHolds r (now (chain .entry)) ⌝ }
+// Whether so it is between all sets of a chain of r rounds, each and the next.
+pub fn words_kept(chain: &[u8], r: usize, from: usize, to: usize) -> bool
+    requires { ⌜ (r ≤ 32) × (1024 + 920 * r ≤ length (now chain)) × (from < 4) × (to < 4) ⌝ }
+    ensures { λ b. ⌜ b ≡ C.wordsKept from to r (now (chain .entry)) ⌝ }
 {
     for set in 0..r {
         let before = lengths::SET * (set + 1);
         let after = lengths::SET * (set + 2);
-        if !word_kept(&chain[before..], &chain[after..]) {
+        if !word_kept(&chain[before..], from, &chain[after..], to) {
             return false;
         }
     }
@@ -165,7 +165,7 @@ pub fn check_sized(size: KeySize, chain: &[u8]) -> Outcome
     if !codings_permute(chain, r) {
         return Outcome::Refused(Refusal::NoPermutation);
     }
-    if !words_kept(chain, r) {
+    if !words_kept(chain, r, 0, 3) {
         return Outcome::Refused(Refusal::WordRule);
     }
     if !all_masks_hold(chain, r) {

@@ -25,6 +25,15 @@ use Rattle.book.specs.Answers.{buildTests, builtInto}
 use Rattle.book.proofs.AnswerLaws.{built-done}
 use Rattle.claims.specs.Built.{Built, bookIn, keyRounds}
 
+-- ---- a valid chain and a key of its size give a book, in every buffer that has room for it
+
+pub any-built : (z : KeySize) (key ch out : List ℕ) → sizeOfKey (length key) ≡ Found z → Chain z ch → bookLength z ≤ length out
+    → Built key ch out (bookOf (rounds z) (keyRows z key) ch ++ drop (bookLength z) out)
+any-built z key ch out e v h =
+    sym (built-done key ch out bookLength (λ y. bookOf (rounds y) (keyRows y key) ch) z e v h (bookOf (rounds z) (keyRows z key) ch) refl)
+
+-- ---- what an answer 0 tells
+
 -- an answer of which the number is 0 is no refusal's
 module _ {A : Type 0} (number : A → ℕ) (refuse : ℕ → A) (e : (q : ℕ) → number (refuse q) ≡ q) (go : A) where
   pub not-refused : (ts : List (Bool × ℕ)) → Numbered ts → number (first ts refuse go) ≡ 0 → Clear ts × (first ts refuse go ≡ go)
@@ -82,10 +91,3 @@ module _ (key ch out held : List ℕ) (built : Built key ch out held) where
 
   pub built-book : Book (keyRounds key) (keyRows (keySize key) key) ch (bookIn key held)
   built-book = subst (λ (b : List ℕ). Book (keyRounds key) (keyRows (keySize key) key) ch b) (sym built-is) (book-made (keyRounds key) (keyRows (keySize key) key) ch)
-
--- with every key of a known size and every valid chain a book is built, into every buffer that has room for it
-pub any-built : (z : KeySize) (key ch out : List ℕ) → sizeOfKey (length key) ≡ Found z → Chain z ch → bookLength z ≤ length out
-    → Built key ch out (bookOf (rounds z) (keyRows z key) ch ++ drop (bookLength z) out)
-any-built z key ch out e v room =
-    let book = bookOf (rounds z) (keyRows z key) ch in
-    sym (built-done key ch out bookLength (λ y. bookOf (rounds y) (keyRows y key) ch) z e v room book refl)

@@ -1,105 +1,94 @@
--- The premises of demand 3's theorems can be met: for each key size the identity chain is valid, and with it and every key of that
--- size a book is built. So none of the theorems is empty.
-use mathlib.Core.Path.{_≡_, refl, sym, _∙_}
+-- The premises of demand 3's theorems can be met: for each key size the identity chain is valid, and so is a chain of which no coding is
+-- the identity; with either and every key of that size a book is built. So none of the theorems is empty.
+use mathlib.Core.Path.{_≡_, refl, ap, _∙_}
+use mathlib.Core.Bool.{Bool, true, false, cond}
 use mathlib.Core.List.{List, _++_}
 use Prim.Native.Nat.{ℕ, suc, _+_, _*_, _%_, _≤_, _<_}
 use native.Mathlib.Omega.{arith}
-use lib.Dec.{lit<}
-use lib.ListN.{length, getD, drop, replicate, length-append, List·getD-append}
-use lib.Seq.{getD-drop}
-use Rattle.lists.specs.Tabulation.{chunks}
-use Rattle.lists.proofs.TabulationLaws.{length-tab, getD-tab, getD-replicate}
-use Rattle.lists.proofs.ChunkLaws.{length-chunks, getD-chunks, getD-second}
-use Rattle.cipher.specs.KeySize.{rounds, chainLength, bookLength, sizeOfKey}
+use borrow.Author.Tests.{eq-eqb, ne-eqb}
+use lib.Dec.{eqb, lit<}
+use lib.ListN.{length, drop}
+use Rattle.cipher.specs.KeySize.{rounds, bookLength, sizeOfKey}
 use Rattle.cipher.specs.Lea.{keyRows}
 use Rattle.cipher.specs.Coding.{Permutation}
-use Rattle.cipher.specs.Chain.{messageSet, chainSet, middleSet, maskIn, Chain}
+use Rattle.cipher.specs.Chain.{messageSet, chainSet, middleSet, maskAt, Chain}
 use Rattle.cipher.specs.Book.{bookOf}
 use Rattle.cipher.specs.declared.size.KeySize.{KeySize}
 use Rattle.cipher.specs.declared.size.SizeFound.the-variants.{Found}
-use Rattle.book.proofs.AnswerLaws.{built-done}
-use Rattle.claims.specs.Identity.{identityCodings, identityRound, identityChain}
+use Rattle.cipher.proofs.ChainPartLaws.{message-read, set-read, middle-read, mask-read, from-valid}
+use Rattle.claims.specs.Identity.{identityChain, shifted, shiftAt, shiftedChain}
 use Rattle.claims.specs.Built.{Built}
+use Rattle.claims.proofs.BuiltLaws.{any-built}
 
-identity-permutes : (f : ℕ → ℕ) → ((v : ℕ) → v < 16 → f v ≡ v) → Permutation f
-identity-permutes f h = record { low = λ i l. rw (h i l) l; once = λ i k l m e. sym (h i l) ∙ e ∙ h k m }
+-- ---- both chains are valid
 
--- ---- bytes of the chain
+identity-permutes : Permutation (λ v. v)
+identity-permutes = record { low = λ i l. l; once = λ i k l m e. e }
 
-codings-length : (n : ℕ) → length (identityCodings n) ≡ 16 * n
-unfolding identityCodings
-codings-length n = length-tab (16 * n) (λ k. k % 16)
+pub identity-valid : (z : KeySize) → Chain z (identityChain z)
+unfolding identityChain
+identity-valid z =
+    from-valid z (λ w j v. v) (λ l w j v. v) (λ l i j v. v) (λ l k. 0)
+    (record {
+      message = λ w j hw hj. identity-permutes;
+      sets = λ l hl w j hw hj. identity-permutes;
+      middles = λ l i j hl hi hj. identity-permutes;
+      word3 = λ l hl j v hj hv. refl;
+      bits = λ l k hl hk. lit< tt;
+      firsts = λ l i hl hi. refl;
+    })
 
-codings-at : (n k : ℕ) → k < 16 * n → getD (identityCodings n) k 0 ≡ k % 16
-unfolding identityCodings
-codings-at n k h = getD-tab (16 * n) (λ k. k % 16) k h
+shifted-permutes : (k : ℕ) → Permutation (shifted k)
+shifted-permutes k = record { low = λ i l. omega arith; once = λ i m l n e. omega arith }
 
-round-length : length identityRound ≡ 408
-unfolding identityRound
-round-length = length-append (identityCodings 24) (replicate 24 0) ∙ rw (codings-length 24)
+mask-bit : (b : Bool) → cond b 0 1 < 2
+mask-bit true = lit< tt
+mask-bit false = lit< tt
 
-round-coding : (o : ℕ) → o < 384 → getD identityRound o 0 ≡ o % 16
-unfolding identityRound
-round-coding o h = List·getD-append (identityCodings 24) (replicate 24 0) 0 o (rw (codings-length 24) h) ∙ codings-at 24 o h
+pub shifted-valid : (z : KeySize) → Chain z (shiftedChain z)
+unfolding shiftedChain
+shifted-valid z =
+    from-valid z (λ w j. shifted (shiftAt 0 w j)) (λ l w j. shifted (shiftAt l w j)) (λ l i j. shifted (shiftAt l i j)) (λ l k. cond (eqb (k % 8) 0) 0 1)
+    (record {
+      message = λ w j hw hj. shifted-permutes (shiftAt 0 w j);
+      sets = λ l hl w j hw hj. shifted-permutes (shiftAt l w j);
+      middles = λ l i j hl hi hj. shifted-permutes (shiftAt l i j);
+      word3 = λ l hl j v hj hv. ap (λ (k : ℕ). shifted (k + j) v) (omega arith);
+      bits = λ l k hl hk. mask-bit (eqb (k % 8) 0);
+      firsts = λ l i hl hi. ap (λ (b : Bool). cond b 0 1) (eq-eqb (8 * i % 8) 0 (omega arith));
+    })
 
-round-mask : (k : ℕ) → getD identityRound (384 + k) 0 ≡ 0
-unfolding identityRound
-round-mask k = getD-second (identityCodings 24) (replicate 24 0) 384 k (384 + k) (codings-length 24) refl ∙ getD-replicate 24 0 k
+-- ---- no coding of the second is the identity: none sends 0 to 0; and masks are set
 
 module _ (z : KeySize) where
   abbrev r : ℕ
   r = rounds z
 
-  chain-length : length (identityChain z) ≡ chainLength z
-  unfolding identityChain
-  chain-length =
-      length-append (identityCodings (32 * (r + 2))) (chunks r (λ l. identityRound))
-      ∙ rw (codings-length (32 * (r + 2)), length-chunks (λ l. identityRound) 408 (λ l. round-length) r) (omega arith)
+  moves : (x k : ℕ) → x ≡ shifted k 0 → k < 15 → x ≡ 0 → ⊥
+  moves x k e h d = omega arith
 
-  front : (k : ℕ) → k < 512 * (r + 2) → getD (identityChain z) k 0 ≡ k % 16
-  unfolding identityChain
-  front k h =
-      List·getD-append (identityCodings (32 * (r + 2))) (chunks r (λ l. identityRound)) 0 k (rw (codings-length (32 * (r + 2))) (omega arith))
-      ∙ codings-at (32 * (r + 2)) k (omega arith)
+  pub message-moves : (w j : ℕ) → w < 4 → j < 8 → messageSet (shiftedChain z) w j 0 ≡ 0 → ⊥
+  unfolding shiftedChain
+  message-moves w j hw hj = moves _ (shiftAt 0 w j) (message-read r _ _ _ _ w j 0 hw hj (lit< tt)) (omega arith)
 
-  after : (l o : ℕ) → l < r → o < 408 → getD (drop (512 * (r + 2) + 408 * l) (identityChain z)) o 0 ≡ getD identityRound o 0
-  unfolding identityChain
-  after l o hl ho =
-      getD-drop (512 * (r + 2) + 408 * l) (identityChain z) o 0
-      ∙ getD-second (identityCodings (32 * (r + 2))) (chunks r (λ l. identityRound)) (512 * (r + 2)) (l * 408 + o) (512 * (r + 2) + 408 * l + o)
-      (codings-length (32 * (r + 2)) ∙ omega arith) (omega arith)
-      ∙ getD-chunks (λ l. identityRound) 408 (λ l. round-length) r l o hl ho
+  pub set-moves : (l w j : ℕ) → l ≤ r → w < 4 → j < 8 → chainSet (shiftedChain z) l w j 0 ≡ 0 → ⊥
+  unfolding shiftedChain
+  set-moves l w j hl hw hj = moves _ (shiftAt l w j) (set-read r _ _ _ _ l w j 0 hl hw hj (lit< tt)) (omega arith)
 
-  -- ---- its codings and masks
-  set-at : (l w j v : ℕ) → l ≤ r → w < 4 → j < 8 → v < 16 → chainSet (identityChain z) l w j v ≡ v
-  set-at l w j v hl hw hj hv =
-      getD-drop (512 * suc l) (identityChain z) (16 * (8 * w + j) + v) 0 ∙ front (512 * suc l + (16 * (8 * w + j) + v)) (omega arith) ∙ omega arith
+  pub middle-moves : (l i j : ℕ) → l < r → i < 3 → j < 8 → middleSet r (shiftedChain z) l i j 0 ≡ 0 → ⊥
+  unfolding shiftedChain
+  middle-moves l i j hl hi hj = moves _ (shiftAt l i j) (middle-read r _ _ _ _ l i j 0 hl hi hj (lit< tt)) (omega arith)
 
-  middle-at : (l i j v : ℕ) → l < r → i < 3 → j < 8 → v < 16 → middleSet r (identityChain z) l i j v ≡ v
-  middle-at l i j v hl hi hj hv =
-      after l (16 * (8 * i + j) + v) hl (omega arith) ∙ round-coding (16 * (8 * i + j) + v) (omega arith) ∙ omega arith
+  pub mask-set : (l i j : ℕ) → l < r → i < 3 → j < 7 → maskAt r (shiftedChain z) l (8 * i + suc j) ≡ 1
+  unfolding shiftedChain
+  mask-set l i j hl hi hj =
+      mask-read r _ _ _ _ l (8 * i + suc j) hl (omega arith) ∙ ap (λ (b : Bool). cond b 0 1) (ne-eqb ((8 * i + suc j) % 8) 0 (λ e. omega arith))
 
-  mask-at : (l i j : ℕ) → l < r → i < 3 → j < 8 → maskIn r (identityChain z) l i j ≡ 0
-  mask-at l i j hl hi hj = after l (384 + (8 * i + j)) hl (omega arith) ∙ round-mask (8 * i + j)
+-- ---- with either a book is built, into every buffer that has room for it
 
-  pub identity-valid : Chain z (identityChain z)
-  identity-valid = record {
-    size = chain-length;
-    codings = record {
-      message = λ w j hw hj. identity-permutes (messageSet (identityChain z) w j) (λ v hv. front (16 * (8 * w + j) + v) (omega arith) ∙ omega arith);
-      sets = λ l hl w j hw hj. identity-permutes (chainSet (identityChain z) l w j) (λ v hv. set-at l w j v hl hw hj hv);
-      middles = λ l i j hl hi hj. identity-permutes (middleSet r (identityChain z) l i j) (λ v hv. middle-at l i j v hl hi hj hv);
-    };
-    word3 = λ l j v hl hj hv. set-at (suc l) 3 j v hl (lit< tt) hj hv ∙ sym (set-at l 0 j v (omega arith) (lit< tt) hj hv);
-    masks = record {
-      bits = λ l i j hl hi hj. rw (mask-at l i j hl hi hj) (lit< tt);
-      firsts = λ l i hl hi. mask-at l i 0 hl hi (lit< tt);
-    };
-  }
+module _ (z : KeySize) (key : List ℕ) (e : sizeOfKey (length key) ≡ Found z) (out : List ℕ) (h : bookLength z ≤ length out) where
+  pub met : Built key (identityChain z) out (bookOf (rounds z) (keyRows z key) (identityChain z) ++ drop (bookLength z) out)
+  met = any-built z key (identityChain z) out e (identity-valid z) h
 
--- a book is built, into every buffer that has room for it
-pub met : (z : KeySize) (key : List ℕ) → sizeOfKey (length key) ≡ Found z → (out : List ℕ) → bookLength z ≤ length out
-    → Built key (identityChain z) out (bookOf (rounds z) (keyRows z key) (identityChain z) ++ drop (bookLength z) out)
-met z key e out h =
-    sym (built-done key (identityChain z) out bookLength (λ y. bookOf (rounds y) (keyRows y key) (identityChain z)) z e (identity-valid z) h
-    (bookOf (rounds z) (keyRows z key) (identityChain z)) refl)
+  pub met-shifted : Built key (shiftedChain z) out (bookOf (rounds z) (keyRows z key) (shiftedChain z) ++ drop (bookLength z) out)
+  met-shifted = any-built z key (shiftedChain z) out e (shifted-valid z) h

@@ -1,16 +1,16 @@
 -- Laws of `chunks`, lists of one length s put one after another: the length, an element, a chunk cut out; a tabulation is
--- made of chunks; an element of the second of two lists.
+-- made of chunks; an element of the second of two lists; the length and the entries of tables.
 use mathlib.Core.Path.{_≡_, refl, sym, ap, ap₂, _∙_}
 use mathlib.Core.Logic.{⊎-elim}
 use mathlib.Core.List.{List, [], _∷_, _++_, append-assoc, append-nil}
-use Prim.Native.Nat.{ℕ, zero, suc, _+_, _*_, _≤_, _<_}
-use native.Mathlib.Nat.{suc-mul, zero-mul, le-of-suc-le-suc, not-suc-le-zero, eq-or-lt-of-le, mul-le-mul-right, le-of-eq, le-refl}
+use Prim.Native.Nat.{ℕ, zero, suc, _+_, _*_, _/_, _%_, _≤_, _<_}
+use native.Mathlib.Nat.{suc-mul, zero-mul, mul-comm, le-of-suc-le-suc, not-suc-le-zero, eq-or-lt-of-le, mul-le-mul-right, le-of-eq, le-refl}
 use native.Mathlib.Numerals.{add-one}
 use native.Mathlib.Omega.{arith}
 use lib.ListN.{length, take, drop, getD, length-append, length-drop, List·getD-append}
 use lib.Seq.{getD-append-add, take-append-le, drop-append-le, drop-at, take-all}
-use Rattle.lists.specs.Tabulation.{tab, chunks}
-use Rattle.lists.proofs.TabulationLaws.{tab-ext}
+use Rattle.lists.specs.Tabulation.{tab, chunks, tables}
+use Rattle.lists.proofs.TabulationLaws.{length-tab, getD-tab, tab-ext}
 
 pub chunks-more : (n : ℕ) (g : ℕ → List ℕ) → chunks (n + 1) g ≡ chunks n g ++ g n
 unfolding chunks
@@ -80,3 +80,23 @@ tab-rows n s f g e =
 -- an element of the second of two lists, the first of length n
 pub getD-second : (a b : List ℕ) (n i k : ℕ) → length a ≡ n → n + i ≡ k → getD (a ++ b) k 0 ≡ getD b i 0
 getD-second a b n i k e h = ap (λ (m : ℕ). getD (a ++ b) m 0) (sym h ∙ ap (λ (m : ℕ). m + i) (sym e)) ∙ getD-append-add a b i 0
+
+-- m tables of s numbers
+module _ (m s : ℕ) (f : ℕ → ℕ → ℕ → ℕ) where
+  each : (p : ℕ) → length (tab s (f (p / 8) (p % 8))) ≡ s
+  each p = length-tab s (f (p / 8) (p % 8))
+
+  pub length-tables : length (tables m s f) ≡ m * s
+  unfolding tables
+  length-tables = length-chunks (λ p. tab s (f (p / 8) (p % 8))) s each m
+
+  -- entry n of table 8i + j
+  pub getD-tables : (i j n : ℕ) → j < 8 → 8 * i + j < m → n < s → getD (tables m s f) (s * (8 * i + j) + n) 0 ≡ f i j n
+  unfolding tables
+  getD-tables i j n hj hm hn =
+      let a : (8 * i + j) / 8 ≡ i = omega arith in
+      let b : (8 * i + j) % 8 ≡ j = omega arith in
+      ap (λ (k : ℕ). getD (chunks m (λ p. tab s (f (p / 8) (p % 8)))) (k + n) 0) (mul-comm s (8 * i + j))
+      ∙ getD-chunks (λ p. tab s (f (p / 8) (p % 8))) s each m (8 * i + j) n hm hn
+      ∙ getD-tab s (f ((8 * i + j) / 8) ((8 * i + j) % 8)) n hn
+      ∙ ap₂ (λ (u v : ℕ). f u v n) a b

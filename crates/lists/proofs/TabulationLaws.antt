@@ -47,11 +47,6 @@ tab-below b n f p h k = go (decLt k n)
     go (yes m) = rw (getD-tab n f k m) (h k m)
     go (no m) = rw (List·getD-eq-default (tab n f) 0 {n = k} (rw (length-tab n f) (omega arith))) p
 
-pub take-tab : (n m : ℕ) (f : ℕ → ℕ) → n ≤ m → take n (tab m f) ≡ tab n f
-take-tab n m f h =
-    sym (tab-is n f (take n (tab m f)) (length-take-le n (tab m f) (rw (length-tab m f) h)) (λ k b.
-    sym (getD-take n (tab m f) k 0 b ∙ getD-tab m f k (omega arith))))
-
 -- `d` again and again
 pub getD-replicate : (n d k : ℕ) → getD (replicate n d) k d ≡ d
 getD-replicate zero d k = refl

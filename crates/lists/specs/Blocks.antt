@@ -35,6 +35,11 @@ xorBlock a b = tab blockLength (λ k. bitXor (getD a k 0) (getD b k 0))
 abbrev pub blockOf : List ℕ → ℕ → List ℕ
 blockOf l k = take blockLength (drop (blockLength * k) l)
 
+-- what stands in front of block k of a text: the IV in front of the first
+unfoldable pub blockBefore : List ℕ → List ℕ → ℕ → List ℕ
+blockBefore iv text zero = iv
+blockBefore iv text (suc k) = blockOf text k
+
 -- the first n blocks of l
 unfoldable pub cut : ℕ → List ℕ → List (List ℕ)
 cut zero l = []

@@ -12,35 +12,26 @@ use Rattle.lists.specs.Tabulation.{tab, chunks}
 use Rattle.lists.specs.Blocks.{Below}
 use Rattle.lists.specs.HalfBytes.{halfByte}
 use Rattle.lists.proofs.TabulationLaws.{length-tab, getD-tab}
-use Rattle.lists.proofs.ChunkLaws.{length-chunks}
 use Rattle.cipher.specs.Coding.{blockHalf}
 use Rattle.cipher.specs.Tables.{upper, lower}
-use Rattle.table_maker.specs.Rows.{sumRow, sumTable, SumsFit, xorRow, xorTable, XorsFit}
+use Rattle.cipher.specs.Chain.{maskInto, maskOutOf}
+use Rattle.table_maker.specs.Rows.{tableBy, TableFits}
 use Rattle.table_maker.specs.Made.{keyedBy, summands, sumEntries, madeAdd, upperPart, lowerPart, upperParts, lowerParts, madeTurn, madeFold}
-use Rattle.table_maker.proofs.RowLaws.{length-sum-row, length-xor-row}
+use Rattle.table_maker.proofs.RowLaws.{length-table}
 
 -- ---- lengths
 
-module _ (e a b : List ℕ) where
-  sum-size : length (sumTable e a b) ≡ length a * 16
-  unfolding sumTable
-  sum-size = length-chunks (λ x. sumRow e (getD a x 0) b) 16 (λ x. length-sum-row e (getD a x 0) b) (length a)
-
-  xor-size : length (xorTable e a b) ≡ length a * 16
-  unfolding xorTable
-  xor-size = length-chunks (λ x. xorRow e (getD a x 0) b) 16 (λ x. length-xor-row e (getD a x 0) b) (length a)
-
 pub length-add : (s R k : List ℕ) (p : ℕ) → length (madeAdd s R k p) ≡ 512
 unfolding madeAdd
-length-add s R k p = sum-size _ _ _ ∙ ap (λ (n : ℕ). n * 16) (length-tab 32 _)
+length-add s R k p = length-table _+_ _ _ _ ∙ ap (λ (n : ℕ). n * 16) (length-tab 32 _)
 
 pub length-turn : (s S : List ℕ) (p : ℕ) → length (madeTurn s S p) ≡ 256
 unfolding madeTurn
-length-turn s S p = sum-size _ _ _ ∙ ap (λ (n : ℕ). n * 16) (length-tab 16 _)
+length-turn s S p = length-table _+_ _ _ _ ∙ ap (λ (n : ℕ). n * 16) (length-tab 16 _)
 
 pub length-fold : (s u S k : List ℕ) (p : ℕ) → length (madeFold s u S k p) ≡ 256
 unfolding madeFold
-length-fold s u S k p = xor-size _ _ _ ∙ ap (λ (n : ℕ). n * 16) (length-tab 16 _)
+length-fold s u S k p = length-table bitXor _ _ _ ∙ ap (λ (n : ℕ). n * 16) (length-tab 16 _)
 
 -- ---- turned half bytes
 
@@ -79,13 +70,13 @@ lower-is (suc (suc zero)) j h k = omega arith
 lower-is (suc (suc (suc i))) j h k = absurd (not-suc-le-zero (le-of-suc-le-suc (le-of-suc-le-suc (le-of-suc-le-suc h))))
 
 -- the half of a byte that is half byte p of its block
-pub half-even : (b p : ℕ) → p % 2 ≡ 0 → b % 16 ≡ halfByte b (p % 2)
+pub low-half : (b p : ℕ) → p % 2 ≡ 0 → b % 16 ≡ halfByte b (p % 2)
 unfolding halfByte
-half-even b p e = rw e
+low-half b p e = rw e
 
-pub half-odd : (b p : ℕ) → (p % 2 ≡ 0 → ⊥) → b / 16 % 16 ≡ halfByte b (p % 2)
+pub high-half : (b p : ℕ) → (p % 2 ≡ 0 → ⊥) → b / 16 % 16 ≡ halfByte b (p % 2)
 unfolding halfByte
-half-odd b p h =
+high-half b p h =
     let e : p % 2 ≡ 1 = omega arith in
     rw e
 
@@ -108,12 +99,27 @@ lower-low (suc zero) = lit< tt
 lower-low (suc (suc zero)) = lit< tt
 lower-low (suc (suc (suc i))) = lit< tt
 
+-- ---- masks, by the place p = 8i + j
+
+pub mask-none : (R : List ℕ) (p : ℕ) → p % 8 ≡ 0 → 0 ≡ maskInto R (p / 8) (p % 8)
+mask-none R p e = rw e
+
+pub mask-there : (R : List ℕ) (p : ℕ) → (p % 8 ≡ 0 → ⊥) → getD R (384 + p) 0 ≡ maskInto R (p / 8) (p % 8)
+mask-there R p h = go (p % 8) refl
+  where
+    go : (j : ℕ) → p % 8 ≡ j → getD R (384 + p) 0 ≡ maskInto R (p / 8) j
+    go zero e = absurd (h e)
+    go (suc j) e = ap (λ (k : ℕ). getD R (384 + k) 0) (omega arith)
+
+pub mask-after : (R : List ℕ) (p : ℕ) → getD R (384 + (8 * (p / 8) + (p + 1) % 8)) 0 ≡ maskOutOf R (p / 8) (p % 8)
+mask-after R p = ap (λ (k : ℕ). getD R (384 + (8 * (p / 8) + k)) 0) (omega arith)
+
 -- ---- a table from its prepared parts a, b and e: the look-ups stay inside e, and it is the table that is named
 
 module _ (s a b e : List ℕ) (n k l m : ℕ) (at at' : ℕ) (f : ℕ → ℕ) (ea : a ≡ tab 32 (summands s at k m)) (eb : b ≡ tab 16 (keyedBy s at' l))
     (ee : e ≡ tab 32 f) (h : Below 16 s) (hk : k < 16) (hl : l < 16) (hm : m < 2) (room : n ≡ 512) where
-  pub add-fits : (16 ≤ length b) × (n ≡ length a * 16) × SumsFit e a b
-  add-fits = (omega (arith, lb), omega (arith, la), λ x q hx hq. fit x q (omega (arith, la)) hq)
+  pub add-fits : (16 ≤ length b) × (n ≡ length a * 16) × TableFits _+_ e a b
+  add-fits = (omega (arith, lb), omega (arith, la), λ x hx q hq. fit x q (omega (arith, la)) hq)
     where
       la : length a ≡ 32
       la = ap length ea ∙ length-tab 32 (summands s at k m)
@@ -133,16 +139,16 @@ module _ (s a b e : List ℕ) (n k l m : ℕ) (at at' : ℕ) (f : ℕ → ℕ) (
           let w = xor-lt 1 (x / 16) m (omega arith) hm in
           omega (arith, p, r, u, v, w, le)
 
-pub add-made : (s R K a b e : List ℕ) (p k l : ℕ) → a ≡ tab 32 (summands s (16 * p) k (getD R (384 + p) 0))
-    → b ≡ tab 16 (keyedBy s (16 * p + 128) l) → e ≡ tab 32 (sumEntries R p) → k ≡ halfByte (getD K (2 * (p / 8)) 0) (p % 8)
-    → l ≡ halfByte (getD K (2 * (p / 8) + 1) 0) (p % 8) → sumTable e a b ≡ madeAdd s R K p
+pub add-made : (s R K a b e : List ℕ) (p k l m : ℕ) → a ≡ tab 32 (summands s (16 * p) k m)
+    → b ≡ tab 16 (keyedBy s (16 * p + 128) l) → e ≡ tab 32 (sumEntries R p) → m ≡ maskInto R (p / 8) (p % 8) → k ≡ halfByte (getD K (2 * (p / 8)) 0) (p % 8)
+    → l ≡ halfByte (getD K (2 * (p / 8) + 1) 0) (p % 8) → tableBy _+_ e a b ≡ madeAdd s R K p
 unfolding madeAdd
-add-made s R K a b e p k l ea eb ee ek el = rw (ea, eb, ee, ek, el)
+add-made s R K a b e p k l m ea eb ee em ek el = rw (ea, eb, ee, em, ek, el)
 
 module _ (s S a b e : List ℕ) (n i at at' o : ℕ) (ea : a ≡ tab 16 (upperParts s at i)) (eb : b ≡ tab 16 (lowerParts s at' i)) (ee : e ≡ drop o S)
     (h : Below 16 s) (far : o + 16 ≤ length S) (room : n ≡ 256) where
-  pub turn-fits : (16 ≤ length b) × (n ≡ length a * 16) × SumsFit e a b
-  turn-fits = (omega (arith, lb), omega (arith, la), λ x q hx hq. fit x q (omega (arith, la)) hq)
+  pub turn-fits : (16 ≤ length b) × (n ≡ length a * 16) × TableFits _+_ e a b
+  turn-fits = (omega (arith, lb), omega (arith, la), λ x hx q hq. fit x q (omega (arith, la)) hq)
     where
       la : length a ≡ 16
       la = ap length ea ∙ length-tab 16 (upperParts s at i)
@@ -161,14 +167,14 @@ module _ (s S a b e : List ℕ) (n i at at' o : ℕ) (ea : a ≡ tab 16 (upperPa
           omega (arith, p, r, u, le)
 
 pub turn-made : (s S a b e : List ℕ) (p x y : ℕ) → a ≡ tab 16 (upperParts s x (p / 8)) → b ≡ tab 16 (lowerParts s y (p / 8)) → e ≡ drop (16 * p) S
-    → x ≡ 16 * (8 * (p / 8) + upper (p / 8) (p % 8)) → y ≡ 16 * (8 * (p / 8) + lower (p / 8) (p % 8)) → sumTable e a b ≡ madeTurn s S p
+    → x ≡ 16 * (8 * (p / 8) + upper (p / 8) (p % 8)) → y ≡ 16 * (8 * (p / 8) + lower (p / 8) (p % 8)) → tableBy _+_ e a b ≡ madeTurn s S p
 unfolding madeTurn
 turn-made s S a b e p x y ea eb ee ex ey = rw (ea, eb, ee, ex, ey)
 
 module _ (s u S a b e : List ℕ) (n k at : ℕ) (ea : a ≡ tab 16 (keyedBy s at k)) (eb : b ≡ drop at u) (ee : e ≡ drop at S)
     (h : Below 16 s) (hu : Below 16 u) (hk : k < 16) (near : at + 16 ≤ length u) (far : at + 16 ≤ length S) (room : n ≡ 256) where
-  pub fold-fits : (16 ≤ length b) × (n ≡ length a * 16) × XorsFit e a b
-  fold-fits = (omega (arith, lb), omega (arith, la), λ x q hx hq. fit x q (omega (arith, la)) hq)
+  pub fold-fits : (16 ≤ length b) × (n ≡ length a * 16) × TableFits bitXor e a b
+  fold-fits = (omega (arith, lb), omega (arith, la), λ x hx q hq. fit x q (omega (arith, la)) hq)
     where
       la : length a ≡ 16
       la = ap length ea ∙ length-tab 16 (keyedBy s at k)
@@ -189,6 +195,6 @@ module _ (s u S a b e : List ℕ) (n k at : ℕ) (ea : a ≡ tab 16 (keyedBy s a
           omega (arith, z, le)
 
 pub fold-made : (s u S K a b e : List ℕ) (p k : ℕ) → a ≡ tab 16 (keyedBy s (16 * p) k) → b ≡ drop (16 * p) u → e ≡ drop (16 * p) S
-    → k ≡ blockHalf K (p / 8) (p % 8) → xorTable e a b ≡ madeFold s u S K p
+    → k ≡ blockHalf K (p / 8) (p % 8) → tableBy bitXor e a b ≡ madeFold s u S K p
 unfolding madeFold
 fold-made s u S K a b e p k ea eb ee ek = rw (ea, eb, ee, ek)

@@ -1,14 +1,17 @@
--- Laws of half bytes cut out by a shift, and of small values: what the builder's loops need.
-use mathlib.Core.Path.{_≡_, refl, sym, ap, _∙_}
-use Prim.Native.Nat.{ℕ, zero, suc, _+_, _*_, _/_, _%_, _^_, _≤_, _<_}
+-- Laws of the builder's loops: one that fills an array by a rule, one that writes a row of a table, one that writes a table row by row,
+-- each with what holds at its counter, a turn and its end; and half bytes cut out by a shift.
+use mathlib.Core.Path.{_≡_, ap₂, _∙_}
+use mathlib.Core.List.{List, _++_}
+use Prim.Native.Nat.{ℕ, zero, suc, _+_, _-_, _*_, _/_, _%_, _^_, _≤_, _<_}
 use native.Mathlib.Nat.{pow-suc, div-div-eq-div-mul, div-one}
 use native.Mathlib.Omega.{arith}
-use mathlib.Core.List.{List}
-use lib.Bits.{bitXor}
-use lib.ListN.{length, getD}
+use lib.ListN.{length, getD, set, take, drop, replicate, length-set}
 use Rattle.lists.specs.HalfBytes.{halfByte}
+use Rattle.lists.specs.Tabulation.{tab, chunks}
 use Rattle.lists.proofs.TabulationLaws.{length-tab}
-use Rattle.table_maker.specs.Rows.{sumRow, xorRow}
+use Rattle.lists.proofs.ChunkLaws.{length-chunks}
+use Rattle.lists.proofs.PartLaws.{fill-turn, fill-full, tab-turn, tab-full, chunks-turn, chunks-full}
+use Rattle.table_maker.specs.Rows.{rowBy, tableBy}
 
 -- half byte j of a word, cut out by a shift
 pub half-shift : (w j : ℕ) → w / 2 ^ (4 * j) % 16 ≡ halfByte w j
@@ -19,20 +22,69 @@ half-shift w (suc j) =
     let d : 2 ^ (4 * suc j) ≡ 16 * 2 ^ (4 * j) = rw (e, pow-suc, pow-suc, pow-suc, pow-suc) (omega arith) in
     rw (d, ← div-div-eq-div-mul) (half-shift (w / 16) j)
 
--- a bound of a sum and of an xor, whose sides are known by other names
-module _ (x y a b n : ℕ) (p : x ≡ a) (q : y ≡ b) where
-  pub fits-sum : a + b < n → x + y < n
-  fits-sum h = omega arith
+-- ---- an array of n zeros, filled by the rule f up to k
 
-  pub fits-xor : bitXor a b < n → bitXor x y < n
-  fits-xor h = rw (p, q) h
+module _ (f : ℕ → ℕ) (n : ℕ) where
+  abbrev pub Filled : List ℕ → ℕ → Type 0
+  Filled d k = (k ≤ n) × (d ≡ tab k f ++ replicate (n - k) 0)
 
--- a row has sixteen entries
-module _ (e : List ℕ) (s : ℕ) (b : List ℕ) where
-  pub length-sum-row : length (sumRow e s b) ≡ 16
-  unfolding sumRow
-  length-sum-row = length-tab 16 (λ q. getD e (s + getD b q 0) 0)
+  pub fill-next : (d : List ℕ) (k v : ℕ) → Filled d k → v ≡ f k → k < n → Filled (set d k v) (k + 1)
+  fill-next d k v h e l = (omega arith, fill-turn f n d k v (h .1) e l)
 
-  pub length-xor-row : length (xorRow e s b) ≡ 16
-  unfolding xorRow
-  length-xor-row = length-tab 16 (λ q. getD e (bitXor s (getD b q 0)) 0)
+  pub fill-done : (d : List ℕ) (k : ℕ) → Filled d k → n ≤ k → d ≡ tab n f
+  fill-done d k h l = fill-full f n d k (h .1) (omega (arith, h .0))
+
+-- ---- a row by an operation, written up to q into out
+
+pub length-row : (op : ℕ → ℕ → ℕ) (e : List ℕ) (s : ℕ) (b : List ℕ) → length (rowBy op e s b) ≡ 16
+unfolding rowBy
+length-row op e s b = length-tab 16 (λ q. getD e (op s (getD b q 0)) 0)
+
+module _ (op : ℕ → ℕ → ℕ) (e : List ℕ) (s : ℕ) (b out₀ : List ℕ) where
+  abbrev pub RowTill : List ℕ → ℕ → Type 0
+  RowTill out q = (q ≤ 16) × (length out ≡ length out₀) × (out ≡ tab q (λ n. getD e (op s (getD b n 0)) 0) ++ drop q out₀)
+
+  -- the operands by the names that the code has for them: the look-up is inside, and its entry is written
+  module _ (x y q : ℕ) (ex : x ≡ s) (ey : y ≡ getD b q 0) where
+    pub row-inside : op s (getD b q 0) < length e → op x y < length e
+    row-inside h = rw (ex, ey) h
+
+    pub row-next : (out : List ℕ) → RowTill out q → q < 16 → length out₀ ≡ 16 → RowTill (set out q (getD e (op x y) 0)) (q + 1)
+    row-next out h l r = (
+      omega arith,
+      simp length-set (h .1),
+      tab-turn (λ n. getD e (op s (getD b n 0)) 0) out₀ out q (getD e (op x y) 0) (h .2) (ap₂ (λ (u v : ℕ). getD e (op u v) 0) ex ey) (omega arith),
+    )
+
+  pub row-done : (out : List ℕ) (q : ℕ) → RowTill out q → 16 ≤ q → length out₀ ≡ 16 → out ≡ rowBy op e s b
+  unfolding rowBy
+  row-done out q h l r = tab-full (λ n. getD e (op s (getD b n 0)) 0) out₀ out 16 q (h .2) (omega (arith, h .0)) r
+
+-- ---- a table by an operation, written up to row x, which is the place at
+
+module _ (op : ℕ → ℕ → ℕ) (e a b out₀ : List ℕ) where
+  abbrev pub TableTill : List ℕ → ℕ → ℕ → Type 0
+  TableTill out at x =
+      (x ≤ length a) × (at ≡ x * 16) × (length out ≡ length out₀) × (out ≡ chunks x (λ i. rowBy op e (getD a i 0) b) ++ drop at out₀)
+
+  -- the part that was lent came back as the row q
+  abbrev grown : List ℕ → List ℕ → ℕ → List ℕ
+  grown out q at = take at out ++ (q ++ drop (at + 16 - at) (drop at out))
+
+  pub table-next : (out q : List ℕ) (at x : ℕ) → TableTill out at x → x < length a → q ≡ rowBy op e (getD a x 0) b
+      → length (grown out q at) ≡ length out → TableTill (grown out q at) (at + 16) (x + 1)
+  table-next out q at x h l d k = (
+    omega arith,
+    omega (arith, h .1),
+    k ∙ h .2,
+    chunks-turn (λ i. rowBy op e (getD a i 0) b) 16 (λ i. length-row op e (getD a i 0) b) out₀ out q x at (h .3) (h .1) d,
+  )
+
+  pub table-done : (out : List ℕ) (at x : ℕ) → TableTill out at x → length a ≤ x → length out₀ ≡ length a * 16 → out ≡ tableBy op e a b
+  unfolding tableBy
+  table-done out at x h l r =
+      chunks-full (λ i. rowBy op e (getD a i 0) b) out₀ out (length a) x at (h .3) (omega (arith, h .0)) (omega (arith, h .0, h .1))
+
+pub length-table : (op : ℕ → ℕ → ℕ) (e a b : List ℕ) → length (tableBy op e a b) ≡ length a * 16
+unfolding tableBy
+length-table op e a b = length-chunks (λ x. rowBy op e (getD a x 0) b) 16 (λ x. length-row op e (getD a x 0) b) (length a)

@@ -10,7 +10,8 @@ use Rattle.lists.specs.Blocks.{zeros}
 use Rattle.lists.specs.HalfBytes.{halfByte}
 use Rattle.cipher.specs.Coding.{FirstPermutations, codingAt, setOf, blockHalf}
 use Rattle.cipher.specs.Tables.{RoundCodings, addEntry, upper, lower}
-use Rattle.table_maker.specs.Rows.{sumTable, xorTable}
+use Rattle.cipher.specs.Chain.{maskInto, maskOutOf}
+use Rattle.table_maker.specs.Rows.{tableBy}
 
 -- 24 codings of half bytes, then 24 masks that are bits
 pub record RoundBytes (R : List ℕ) : Type 0 where
@@ -33,8 +34,8 @@ codingsOf B A R = record {
   before = setOf B;
   after = setOf A;
   middle = setOf R;
-  maskIn = λ i j. getD R (middlesLength + (8 * i + j)) 0;
-  maskOut = λ i j. getD R (middlesLength + (8 * i + suc j)) 0;
+  maskIn = maskInto R;
+  maskOut = maskOutOf R;
 }
 
 -- ---- add tables
@@ -49,12 +50,12 @@ summands s at k m x = bitXor (getD s (at + x % 16) 0) k + bitXor (x / 16) m
 
 -- the entry of each sum
 abbrev pub sumEntries : List ℕ → ℕ → ℕ → ℕ
-sumEntries R p n = addEntry (p % 8) (codingAt R p) (getD R (385 + p) 0) n
+sumEntries R p n = addEntry (p % 8) (codingAt R p) (maskOutOf R (p / 8) (p % 8)) n
 
 unfoldable pub madeAdd : List ℕ → List ℕ → List ℕ → ℕ → List ℕ
 madeAdd s R k p =
-    sumTable (tab 32 (sumEntries R p))
-    (tab 32 (summands s (codingLength * p) (halfByte (getD k (2 * (p / 8)) 0) (p % 8)) (getD R (middlesLength + p) 0)))
+    tableBy _+_ (tab 32 (sumEntries R p))
+    (tab 32 (summands s (codingLength * p) (halfByte (getD k (2 * (p / 8)) 0) (p % 8)) (maskInto R (p / 8) (p % 8))))
     (tab 16 (keyedBy s (codingLength * p + wordLength) (halfByte (getD k (2 * (p / 8) + 1) 0) (p % 8))))
 
 -- ---- turn tables
@@ -79,13 +80,13 @@ lowerParts s at i q = lowerPart i (getD s (at + q) 0)
 -- s has the middle codings inverted, and S begins with the set after the round
 unfoldable pub madeTurn : List ℕ → List ℕ → ℕ → List ℕ
 madeTurn s S p =
-    sumTable (drop (codingLength * p) S) (tab 16 (upperParts s (codingLength * (8 * (p / 8) + upper (p / 8) (p % 8))) (p / 8)))
+    tableBy _+_ (drop (codingLength * p) S) (tab 16 (upperParts s (codingLength * (8 * (p / 8) + upper (p / 8) (p % 8))) (p / 8)))
     (tab 16 (lowerParts s (codingLength * (8 * (p / 8) + lower (p / 8) (p % 8))) (p / 8)))
 
 -- ---- fold tables: s and u have the sets that are folded from inverted, and S begins with the set that is folded to
 
 unfoldable pub madeFold : List ℕ → List ℕ → List ℕ → List ℕ → ℕ → List ℕ
-madeFold s u S k p = xorTable (drop (codingLength * p) S) (tab 16 (keyedBy s (codingLength * p) (blockHalf k (p / 8) (p % 8)))) (drop (codingLength * p) u)
+madeFold s u S k p = tableBy bitXor (drop (codingLength * p) S) (tab 16 (keyedBy s (codingLength * p) (blockHalf k (p / 8) (p % 8)))) (drop (codingLength * p) u)
 
 -- the key blocks of the three groups
 unfoldable pub threeKeys : List ℕ → List ℕ → ℕ → List ℕ

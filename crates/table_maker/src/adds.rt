@@ -8,6 +8,7 @@ ghost use Rattle.lists.specs.Tabulation.{tab, chunks};
 ghost use Rattle.lists.specs.Blocks.{Below};
 ghost use Rattle.lists.specs.HalfBytes.{halfByte};
 ghost use Rattle.cipher.specs.Tables.{carryHeld};
+ghost use Rattle.cipher.specs.Chain.{maskInto, maskOutOf};
 ghost use Rattle.table_maker.specs.Made.{RoundBytes, keyedBy, summands, sumEntries, madeAdd};
 use crate::rows::sum_table;
 use cipher::lengths;
@@ -52,13 +53,33 @@ fn row_summands(s: &[u8], at: usize, k: u8, m: u8) -> [u8; 32]
     a
 }
 
-// The carry c out of half byte p of a round's sums, under the next mask; at the top none is written.
+// The mask of the carry into half byte p of a round's sums: none into the lowest of a word.
+fn mask_in(round: &[u8], p: usize) -> u8
+    requires { ⌜ (p < 24) × RoundBytes (now round) ⌝ }
+    ensures { λ r. ⌜ (r ≡ maskInto (now (round .entry)) (p / 8) (p % 8)) × (r < 2) ⌝ }
+{
+    if p % lengths::HALVES == 0 {
+        return 0;
+    }
+    round[lengths::MASKS + p]
+}
+
+// The mask of the carry out of half byte p: that of the next half byte of its word, counted mod 8.
+fn mask_out(round: &[u8], p: usize) -> u8
+    requires { ⌜ (p < 24) × RoundBytes (now round) ⌝ }
+    ensures { λ r. ⌜ (r ≡ maskOutOf (now (round .entry)) (p / 8) (p % 8)) × (r < 2) ⌝ }
+{
+    let i = p / lengths::HALVES;
+    round[lengths::MASKS + (lengths::HALVES * i + (p + 1) % lengths::HALVES)]
+}
+
+// The carry c out of half byte p, under its mask; at the top none is written.
 fn carry_out(round: &[u8], p: usize, c: usize) -> u8
     requires { ⌜ (p < 24) × (c < 2) × RoundBytes (now round) ⌝ }
-    ensures { λ r. ⌜ (r ≡ carryHeld (p % 8) c (getD (now (round .entry)) (385 + p) 0)) × (r < 2) ⌝ }
+    ensures { λ r. ⌜ (r ≡ carryHeld (p % 8) c (maskOutOf (now (round .entry)) (p / 8) (p % 8))) × (r < 2) ⌝ }
 {
     if p % lengths::HALVES < lengths::HALVES - 1 {
-        return (c as u8) ^ round[lengths::MASKS + 1 + p];
+        return (c as u8) ^ mask_out(round, p);
     }
     0
 }
@@ -92,7 +113,7 @@ fn add_table(s: &[u8], round: &[u8], k: [u32; 6], p: usize, out: &mut [u8])
     let i = p / lengths::HALVES;
     let j = p % lengths::HALVES;
     let at = lengths::CODING * p;
-    let a = row_summands(s, at, half(k[2 * i], j), round[lengths::MASKS + p]);
+    let a = row_summands(s, at, half(k[2 * i], j), mask_in(round, p));
     let b = keyed(s, at + lengths::WORD, half(k[2 * i + 1], j));
     let e = sum_entries(round, p);
     sum_table(&e, &a, &b, out);

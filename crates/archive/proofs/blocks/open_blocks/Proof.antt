@@ -6,12 +6,12 @@ use native.Mathlib.Omega.{arith}
 use borrow.Author.Needs.{needs}
 use lib.ListN.{length, drop}
 use Rattle.lists.specs.Tabulation.{chunks}
-use Rattle.lists.specs.Blocks.{Block, blockOf}
+use Rattle.lists.specs.Blocks.{Block, blockOf, blockBefore}
 use Rattle.cipher.specs.KeySize.{rounds}
 use Rattle.cipher.specs.Schedule.{words4}
 use Rattle.cipher.specs.Images.{imaged}
 use Rattle.cipher.proofs.ImageLaws.{block-imaged}
-use Rattle.archive.specs.Blocks.{blockBefore, openedBlock}
+use Rattle.archive.specs.Blocks.{openedBlock}
 use Rattle.archive.proofs.OpenLaws.{opened-words, block-opened, open-turn, before-more, own-rest, after}
 use Rattle.archive.proofs.blocks.open_blocks.Statement.{statement}
 use Rattle.archive.proofs.blocks.open_blocks.Tie as tie

@@ -15,14 +15,27 @@ returns c = sym (built-key _ _ _ _ _ (sym (c .before .before .of-key-len .ensure
 
 returns-2 : tie.Need-returns-2
 returns-2 c =
-    sym (built-chain _ _ _ _ _ (c .before .before .before .before .size .given .0 .0) (sym (c .before .before .before .before .before .before .of-key-len .ensures) ∙ c .before .before .before .before .size .given .1) _ _ (c .before .before .check-sized .ensures) (c .before .number .ensures) (c .if1 .taken))
+    let at-check-sized = c .before .before in
+    let at-size = at-check-sized .before .before in
+    let at-of-key-len = at-size .before .before in
+    let known = sym (at-of-key-len .of-key-len .ensures) ∙ at-size .size .given .1 in
+    sym (built-chain _ _ _ _ _ (at-size .size .given .0 .0) known _ _ (at-check-sized .check-sized .ensures) (c .before .number .ensures) (c .if1 .taken))
 
 returns-3 : tie.Need-returns-3
 returns-3 c =
-    sym (built-room _ _ _ _ _ (c .before .before .before .before .before .size .given .0 .0) (sym (c .before .before .before .before .before .before .before .of-key-len .ensures) ∙ c .before .before .before .before .before .size .given .1) (checked-valid (c .before .before .before .before .before .size .given .0 .0) _ (sym (c .before .before .before .check-sized .ensures) ∙ sym (c .before .before .number .ensures) ∙ c .before .if1 .left)) (c .if2 .taken))
+    let at-number = c .before .before in
+    let at-check-sized = at-number .before in
+    let at-size = at-check-sized .before .before in
+    let at-of-key-len = at-size .before .before in
+    let known = sym (at-of-key-len .of-key-len .ensures) ∙ at-size .size .given .1 in
+    let z = at-size .size .given .0 .0 in
+    let valid = checked-valid z _ (sym (at-check-sized .check-sized .ensures) ∙ sym (at-number .number .ensures) ∙ c .before .if1 .left) in
+    sym (built-room _ _ _ _ _ z known valid (c .if2 .taken))
 
 key-rows-requires : tie.Need-key-rows-requires
-key-rows-requires c κs = found-length keyLength _ _ (sym (c .before .before .before .before .before .before .before .of-key-len .ensures) ∙ c .before .before .before .before .before .size .given .1)
+key-rows-requires c κs =
+    let at-size = c .before .before .before .before .before in
+    found-length keyLength _ _ (sym (at-size .before .before .of-key-len .ensures) ∙ at-size .size .given .1)
 
 rem-at : tie.Need-rem-at
 rem-at c =
@@ -31,31 +44,53 @@ rem-at c =
 
 mul-round-at : tie.Need-mul-round-at
 mul-round-at c =
-    let z = c .before .before .before .before .before .before .before .size .given .0 .0 in
-    let a = round-below z (c .before .before .before .before .before .before .before .before .before .before .before .before .before .args .l) (c .rounds .result) (c .rounds .ensures) in
+    let at-size = c .before .before .before .before .before .before .before in
+    let z = at-size .size .given .0 .0 in
+    let a = round-below z (at-size .before .before .before .before .before .before .args .l) (c .rounds .result) (c .rounds .ensures) in
     let b = rounds-le z in
     omega arith
 
 array-copy-out-round-at : tie.Need-array-copy-out-round-at
 array-copy-out-round-at c =
-    let z = c .before .before .before .before .before .before .before .size .given .0 .0 in
-    let a = round-below z (c .before .before .before .before .before .before .before .before .before .before .before .before .before .args .l) (c .rounds .result) (c .rounds .ensures) in
+    let at-size = c .before .before .before .before .before .before .before in
+    let z = at-size .size .given .0 .0 in
+    let a = round-below z (at-size .before .before .before .before .before .before .args .l) (c .rounds .result) (c .rounds .ensures) in
     let b = rounds-le z in
     omega arith
 
 round-at-requires : tie.Need-round-at-requires
-round-at-requires c κs = (
-  checked-valid (c .before .before .before .before .before .before .before .before .before .size .given .0 .0) _ (sym (c .before .before .before .before .before .before .before .check-sized .ensures) ∙ sym (c .before .before .before .before .before .before .number .ensures) ∙ c .before .before .before .before .before .if1 .left),
-  round-below (c .before .before .before .before .before .before .before .before .before .size .given .0 .0) (c .before .before .before .before .before .before .before .before .before .before .before .before .before .before .before .args .l) (c .before .before .rounds .result) (c .before .before .rounds .ensures),
-  length-take-le 18432 (c .before .before .before .before .before .before .before .before .before .before .before .before .before .before .before .args .out .now) (omega arith),
-)
+round-at-requires c κs =
+    let at-rounds = c .before .before in
+    let at-if1 = at-rounds .before .before .before in
+    let at-number = at-if1 .before in
+    let at-check-sized = at-number .before in
+    let at-size = at-check-sized .before .before in
+    let e = at-size .before .before .before .before .before .before in (
+      checked-valid (at-size .size .given .0 .0) _ (sym (at-check-sized .check-sized .ensures) ∙ sym (at-number .number .ensures) ∙ at-if1 .if1 .left),
+      round-below (at-size .size .given .0 .0) (e .args .l) (at-rounds .rounds .result) (at-rounds .rounds .ensures),
+      length-take-le 18432 (e .args .out .now) (omega arith),
+    )
 
 returns-4 : tie.Need-returns-4
 returns-4 c =
-    let e = c .before .before .before .before .before .before .before .before .before .before .before .before .before .before .before .before .before .before in
-    let z = c .before .before .before .before .before .before .before .before .before .before .before .before .size .given .0 .0 in
-    built-done _ _ _ _ _ z (sym (c .before .before .before .before .before .before .before .before .before .before .before .before .before .before .of-key-len .ensures) ∙ c .before .before .before .before .before .before .before .before .before .before .before .before .size .given .1) (checked-valid (c .before .before .before .before .before .before .before .before .before .before .before .before .size .given .0 .0) _ (sym (c .before .before .before .before .before .before .before .before .before .before .check-sized .ensures) ∙ sym (c .before .before .before .before .before .before .before .before .before .number .ensures) ∙ c .before .before .before .before .before .before .before .before .if1 .left)) (omega arith) _
-    (round-is z (e .args .key .now) (e .args .chain .now) _ _ (e .args .l) _ (c .before .before .before .before .before .rounds .ensures) (c .before .before .before .before .before .before .key-rows .ensures) (c .before .before .round-at .ensures))
+    let at-round-at = c .before .before in
+    let at-rounds = at-round-at .before .before .before in
+    let at-key-rows = at-rounds .before in
+    let at-if1 = at-key-rows .before .before in
+    let at-number = at-if1 .before in
+    let at-check-sized = at-number .before in
+    let at-size = at-check-sized .before .before in
+    let at-of-key-len = at-size .before .before in
+    let e = at-of-key-len .before .before .before .before in
+    let z = at-size .size .given .0 .0 in
+    built-done _ _ _ _ _ z (sym (at-of-key-len .of-key-len .ensures) ∙ at-size .size .given .1)
+    (checked-valid (at-size .size .given .0 .0) _ (sym (at-check-sized .check-sized .ensures) ∙ sym (at-number .number .ensures) ∙ at-if1 .if1 .left))
+    (omega arith) _
+    (round-is z (e .args .key .now) (e .args .chain .now) _ _ (e .args .l) _ (at-rounds .rounds .ensures) (at-key-rows .key-rows .ensures) (at-round-at .round-at .ensures))
 
 pub build-round-spec : {M : Type 1} → statement M
-build-round-spec = tie.close (tie.spec (λ c κs. search needs) (λ c. search needs) (λ c. search needs) returns (λ c κs. search needs) (λ c κs. search needs) returns-2 returns-3 key-rows-requires (λ c κs. search needs) rem-at mul-round-at array-copy-out-round-at (λ c. search needs) (λ c. search needs) (λ c. search needs) round-at-requires (λ c. search needs) returns-4)
+build-round-spec =
+    tie.close
+    (tie.spec (λ c κs. search needs) (λ c. search needs) (λ c. search needs) returns (λ c κs. search needs) (λ c κs. search needs) returns-2
+    returns-3 key-rows-requires (λ c κs. search needs) rem-at mul-round-at array-copy-out-round-at (λ c. search needs) (λ c. search needs)
+    (λ c. search needs) round-at-requires (λ c. search needs) returns-4)

@@ -23,44 +23,84 @@ start-requires c κs =
 
 groups-requires : tie.Need-groups-requires
 groups-requires c κs =
-    let e = c .before .before .before .before .before .before .before .before .before .before .before .before .before in
+    let at-start = c .before .before .before .before .before in
+    let at-book-len = at-start .before .before .before in
+    let at-rounds = at-book-len .before .before in
+    let e = at-rounds .before .before .before in
     let ch = e .args .chain .now in
-    let q = c .before .before .before .before .before .before .before .before .before .before .rounds .result in
-    let s = last-set (e .args .size) ch _ q (e .pre .0) (c .before .before .before .before .before .before .before .before .before .before .rounds .ensures) (part-end ch (512 * (q + 1))) in (
+    let q = at-rounds .rounds .result in
+    let s = last-set (e .args .size) ch _ q (e .pre .0) (at-rounds .rounds .ensures) (part-end ch (512 * (q + 1))) in (
       s .0,
       s .1,
       message-permutes (e .args .size) ch (e .pre .0),
       omega (arith, e .pre .0 .size),
       after-first ch (omega (arith, e .pre .0 .size)),
-      groups-room (c .before .before .before .before .before .start .last .1 .0) (e .args .out .now) _ (rounds (e .args .size)) (start-length _ _ (c .before .before .before .before .before .start .ensures)) (e .pre .1) (c .before .before .before .before .before .before .before .before .book-len .ensures),
+      groups-room (at-start .start .last .1 .0) (e .args .out .now) _ (rounds (e .args .size)) (start-length _ _ (at-start .start .ensures)) (e .pre .1)
+          (at-book-len .book-len .ensures),
     )
 
 part-round-parts-end : tie.Need-part-round-parts-end
 part-round-parts-end c =
-    let e = c .before .before .before .before .before .before .before .before .before .before .before .before .before .before .before .before in
-    let n = c .before .before .before .before .before .before .before .before .before .before .before .book-len .ensures in
-    omega (arith, n, after-length (c .before .before .before .before .before .before .before .before .start .last .1 .0) (e .args .out .now) (c .before .before .before .before .before .before .before .before .before .before .before .book-len .result) (rounds (e .args .size)) (start-length _ _ (c .before .before .before .before .before .before .before .before .start .ensures)) (e .pre .1) n (c .before .before .groups .last .1 .1 .1 .1 .0) (groups-length _ _ _ _ (threeKeys _ _) (c .before .before .groups .ensures)))
+    let at-groups = c .before .before in
+    let at-start = at-groups .before .before .before .before .before .before in
+    let at-book-len = at-start .before .before .before in
+    let e = at-book-len .before .before .before .before .before in
+    let n = at-book-len .book-len .ensures in
+    let s = start-length _ _ (at-start .start .ensures) in
+    let g = groups-length _ _ _ _ (threeKeys _ _) (at-groups .groups .ensures) in
+    let m = after-length (at-start .start .last .1 .0) (e .args .out .now) (at-book-len .book-len .result) (rounds (e .args .size)) s (e .pre .1) n
+    (at-groups .groups .last .1 .1 .1 .1 .0) g in
+    omega (arith, n, m)
 
 round-parts-requires : tie.Need-round-parts-requires
 round-parts-requires c κs =
-    let e = c .before .before .before .before .before .before .before .before .before .before .before .before .before .before .before .before .before in
-    (e .pre .0, rounds-room (c .before .before .before .before .before .before .before .before .before .start .last .1 .0) (e .args .out .now) (c .before .before .before .before .before .before .before .before .before .before .before .before .book-len .result) (rounds (e .args .size)) (start-length _ _ (c .before .before .before .before .before .before .before .before .before .start .ensures)) (e .pre .1) (c .before .before .before .before .before .before .before .before .before .before .before .before .book-len .ensures) (c .before .before .before .groups .last .1 .1 .1 .1 .0) (groups-length _ _ _ _ (threeKeys _ _) (c .before .before .before .groups .ensures)))
+    let at-groups = c .before .before .before in
+    let at-start = at-groups .before .before .before .before .before .before in
+    let at-book-len = at-start .before .before .before in
+    let e = at-book-len .before .before .before .before .before in
+    let n = at-book-len .book-len .ensures in
+    let s = start-length _ _ (at-start .start .ensures) in
+    let g = groups-length _ _ _ _ (threeKeys _ _) (at-groups .groups .ensures) in (
+      e .pre .0,
+      rounds-room (at-start .start .last .1 .0) (e .args .out .now) (at-book-len .book-len .result) (rounds (e .args .size)) s (e .pre .1) n
+          (at-groups .groups .last .1 .1 .1 .1 .0) g,
+    )
 
 same-length : tie.Need-same-length
 same-length c =
-    let e = c .before .before .before .before .before .before .before .before .before .before .before .before .before .before .before .before .before .before .before .before in
-    all-length (c .before .before .before .before .before .before .before .before .before .before .before .before .start .last .1 .0) (e .args .out .now) (c .before .before .before .before .before .before .before .before .before .before .before .before .before .before .before .book-len .result) (rounds (e .args .size)) (start-length _ _ (c .before .before .before .before .before .before .before .before .before .before .before .before .start .ensures)) (e .pre .1) (c .before .before .before .before .before .before .before .before .before .before .before .before .before .before .before .book-len .ensures) (c .before .before .before .before .before .before .groups .last .1 .1 .1 .1 .0) (groups-length _ _ _ _ (threeKeys _ _) (c .before .before .before .before .before .before .groups .ensures))
-    (c .before .before .round-parts .last .1 .1 .1 .0) (rounds-length _ (rounds (e .args .size)) _ _ (c .before .before .round-parts .ensures))
+    let at-round-parts = c .before .before in
+    let at-groups = at-round-parts .before .before .before .before in
+    let at-start = at-groups .before .before .before .before .before .before in
+    let at-book-len = at-start .before .before .before in
+    let e = at-book-len .before .before .before .before .before in
+    all-length (at-start .start .last .1 .0) (e .args .out .now) (at-book-len .book-len .result) (rounds (e .args .size))
+    (start-length _ _ (at-start .start .ensures)) (e .pre .1) (at-book-len .book-len .ensures) (at-groups .groups .last .1 .1 .1 .1 .0)
+    (groups-length _ _ _ _ (threeKeys _ _) (at-groups .groups .ensures))
+    (at-round-parts .round-parts .last .1 .1 .1 .0) (rounds-length _ (rounds (e .args .size)) _ _ (at-round-parts .round-parts .ensures))
 
 returns : tie.Need-returns
 returns c =
-    let e = c .before .before .before .before .before .before .before .before .before .before .before .before .before .before .before .before .before .before .before .before in
+    let at-round-parts = c .before .before in
+    let at-groups = at-round-parts .before .before .before .before in
+    let at-start = at-groups .before .before .before .before .before .before in
+    let at-book-len = at-start .before .before .before in
+    let at-subkeys = at-book-len .before in
+    let at-rounds = at-subkeys .before in
+    let e = at-rounds .before .before .before in
     let ch = e .args .chain .now in
-    let q = c .before .before .before .before .before .before .before .before .before .before .before .before .before .before .before .before .before .rounds .result in
-    all-joined (c .before .before .before .before .before .before .before .before .before .before .before .before .start .last .1 .0) (e .args .out .now) (c .before .before .before .before .before .before .before .before .before .before .before .before .before .before .before .book-len .result) (rounds (e .args .size)) (start-length _ _ (c .before .before .before .before .before .before .before .before .before .before .before .before .start .ensures)) (e .pre .1) (c .before .before .before .before .before .before .before .before .before .before .before .before .before .before .before .book-len .ensures) (c .before .before .before .before .before .before .groups .last .1 .1 .1 .1 .0) (groups-length _ _ _ _ (threeKeys _ _) (c .before .before .before .before .before .before .groups .ensures))
-    (c .before .before .round-parts .last .1 .1 .1 .0)
-    ∙ book-is (rounds (e .args .size)) q _ ch _ _ _ _ _ _ _ (c .before .before .before .before .before .before .before .before .before .before .before .before .before .before .before .before .before .rounds .ensures) (part-end ch (512 * (q + 1))) (part-end ch 512)
-    (c .before .before .before .before .before .before .before .before .before .before .before .before .before .before .before .before .subkeys .ensures .0) (c .before .before .before .before .before .before .before .before .before .before .before .before .before .before .before .before .subkeys .ensures .1) (c .before .before .before .before .before .before .before .before .before .before .before .before .start .ensures) (c .before .before .before .before .before .before .groups .ensures) (c .before .before .round-parts .ensures)
+    let q = at-rounds .rounds .result in
+    all-joined (at-start .start .last .1 .0) (e .args .out .now) (at-book-len .book-len .result) (rounds (e .args .size))
+    (start-length _ _ (at-start .start .ensures)) (e .pre .1) (at-book-len .book-len .ensures) (at-groups .groups .last .1 .1 .1 .1 .0)
+    (groups-length _ _ _ _ (threeKeys _ _) (at-groups .groups .ensures))
+    (at-round-parts .round-parts .last .1 .1 .1 .0)
+    ∙ book-is (rounds (e .args .size)) q _ ch _ _ _ _ _ _ _ (at-rounds .rounds .ensures) (part-end ch (512 * (q + 1))) (part-end ch 512)
+    (at-subkeys .subkeys .ensures .0) (at-subkeys .subkeys .ensures .1) (at-start .start .ensures) (at-groups .groups .ensures) (at-round-parts .round-parts .ensures)
 
 pub fill-spec : {M : Type 1} → statement M
-fill-spec = tie.close (tie.spec (λ c κs. search needs) (λ c. search needs) (λ c. search needs) (λ c κs. search needs) (λ c κs. search needs) (λ c. search needs) (λ c. search needs) (λ c. search needs) (λ c. search needs) (λ c. search needs) (λ c. search needs) start-requires (λ c. search needs) (λ c. search needs) (λ c. search needs) (λ c. search needs) (λ c. search needs) (λ c. search needs) (λ c. search needs) (λ c. search needs) (λ c. search needs) groups-requires (λ c. search needs) (λ c. search needs) part-round-parts-end round-parts-requires same-length returns)
+fill-spec =
+    tie.close
+    (tie.spec (λ c κs. search needs) (λ c. search needs) (λ c. search needs) (λ c κs. search needs) (λ c κs. search needs)
+    (λ c. search needs) (λ c. search needs) (λ c. search needs) (λ c. search needs) (λ c. search needs) (λ c. search needs) start-requires
+    (λ c. search needs) (λ c. search needs) (λ c. search needs) (λ c. search needs) (λ c. search needs) (λ c. search needs)
+    (λ c. search needs) (λ c. search needs) (λ c. search needs) groups-requires (λ c. search needs) (λ c. search needs) part-round-parts-end
+    round-parts-requires same-length returns)

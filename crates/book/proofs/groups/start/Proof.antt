@@ -41,4 +41,7 @@ returns : tie.Need-returns Inv-loop μ-loop
 returns c = tab-full _ _ _ 16 (c .before .loop .k) (c .before .loop .inv .2) (omega arith) (omega arith) ∙ start-is (c .before .before .before .before .args .last .now)
 
 pub start-spec : {M : Type 1} → statement M
-start-spec = tie.close (tie.spec Inv-loop μ-loop loop-holds (λ c. search needs) (λ c. search needs) (λ c. search needs) (λ c. search needs) (λ c. search needs) start-byte-requires (λ c. search needs) (λ c. search needs) (λ c. search needs) loop-again same-length returns)
+start-spec =
+    tie.close
+    (tie.spec Inv-loop μ-loop loop-holds (λ c. search needs) (λ c. search needs) (λ c. search needs) (λ c. search needs) (λ c. search needs)
+    start-byte-requires (λ c. search needs) (λ c. search needs) (λ c. search needs) loop-again same-length returns)

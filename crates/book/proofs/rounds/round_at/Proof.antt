@@ -31,4 +31,9 @@ returns c =
     (omega arith) (omega arith) (ap (λ (q : ℕ). 512 * (q + 2) + 408 * l) (d .before .before .before .before .rounds .ensures)) (e .args .k)
 
 pub round-at-spec : {M : Type 1} → statement M
-round-at-spec = tie.close (tie.spec (λ c κs. search needs) (λ c. search needs) (λ c. search needs) (λ c. search needs) (λ c. search needs) (λ c. search needs) (λ c. search needs) (λ c. search needs) (λ c. search needs) (λ c. search needs) (λ c. search needs) (λ c. search needs) (λ c. search needs) (λ c. search needs) (λ c. search needs) (λ c. search needs) (λ c. search needs) (λ c. search needs) round-tables-requires (λ c. search needs) returns)
+round-at-spec =
+    tie.close
+    (tie.spec (λ c κs. search needs) (λ c. search needs) (λ c. search needs) (λ c. search needs) (λ c. search needs) (λ c. search needs)
+    (λ c. search needs) (λ c. search needs) (λ c. search needs) (λ c. search needs) (λ c. search needs) (λ c. search needs)
+    (λ c. search needs) (λ c. search needs) (λ c. search needs) (λ c. search needs) (λ c. search needs) (λ c. search needs)
+    round-tables-requires (λ c. search needs) returns)

@@ -85,4 +85,7 @@ returns c =
     chunks-full _ _ _ _ (s .loop .l) (s .loop .at) (s .loop .inv .3) e (omega arith)
 
 pub round-parts-spec : {M : Type 1} → statement M
-round-parts-spec = tie.close (tie.spec Inv-loop μ-loop (λ c κs. search needs) loop-holds add-to (λ c. search needs) array-copy-out-round-at sub-round-at (λ c. search needs) part-round-at-end round-at-requires (λ c. search needs) loop-less loop-again same-length returns)
+round-parts-spec =
+    tie.close
+    (tie.spec Inv-loop μ-loop (λ c κs. search needs) loop-holds add-to (λ c. search needs) array-copy-out-round-at sub-round-at
+    (λ c. search needs) part-round-at-end round-at-requires (λ c. search needs) loop-less loop-again same-length returns)

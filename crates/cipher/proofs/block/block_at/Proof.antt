@@ -34,4 +34,7 @@ returns c =
     ∙ tab-part (a .s .now) (a .at) 16 (h .before .pre)
 
 pub block-at-spec : {M : Type 1} → statement M
-block-at-spec = tie.close (tie.spec Inv-loop μ-loop loop-holds (λ c. search needs) (λ c. search needs) (λ c. search needs) (λ c. search needs) (λ c. search needs) loop-again returns)
+block-at-spec =
+    tie.close
+    (tie.spec Inv-loop μ-loop loop-holds (λ c. search needs) (λ c. search needs) (λ c. search needs) (λ c. search needs) (λ c. search needs)
+    loop-again returns)

@@ -41,4 +41,7 @@ returns c =
     ∙ sym (coded-each (a .set .now) (a .t2))
 
 pub code-block-spec : {M : Type 1} → statement M
-code-block-spec = tie.close (tie.spec Inv-loop μ-loop loop-holds (λ c. search needs) code-byte-requires (λ c. search needs) (λ c. search needs) (λ c. search needs) loop-again returns)
+code-block-spec =
+    tie.close
+    (tie.spec Inv-loop μ-loop loop-holds (λ c. search needs) code-byte-requires (λ c. search needs) (λ c. search needs) (λ c. search needs)
+    loop-again returns)

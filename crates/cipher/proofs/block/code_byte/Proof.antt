@@ -25,4 +25,7 @@ returns c =
     ap (λ (y : ℕ). getD (a .set .now) (32 * a .k + a .x % 16) 0 + 16 * getD (a .set .now) (32 * a .k + 16 + y) 0) e
 
 pub code-byte-spec : {M : Type 1} → statement M
-code-byte-spec = tie.close (tie.spec (λ c. search needs) (λ c. search needs) (λ c. search needs) (λ c. search needs) (λ c. search needs) (λ c. search needs) (λ c. search needs) mul-result add-result-4 returns)
+code-byte-spec =
+    tie.close
+    (tie.spec (λ c. search needs) (λ c. search needs) (λ c. search needs) (λ c. search needs) (λ c. search needs) (λ c. search needs)
+    (λ c. search needs) mul-result add-result-4 returns)

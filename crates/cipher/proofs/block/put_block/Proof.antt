@@ -30,4 +30,7 @@ returns c =
     paste-full (a .d .now) (c .before .loop .d) (a .t3) (a .at) 16 (c .before .loop .k) (v .2) (omega arith) (v .1)
 
 pub put-block-spec : {M : Type 1} → statement M
-put-block-spec = tie.close (tie.spec Inv-loop μ-loop loop-holds (λ c. search needs) (λ c. search needs) (λ c. search needs) (λ c. search needs) (λ c. search needs) loop-again (λ c. search needs) returns)
+put-block-spec =
+    tie.close
+    (tie.spec Inv-loop μ-loop loop-holds (λ c. search needs) (λ c. search needs) (λ c. search needs) (λ c. search needs) (λ c. search needs)
+    loop-again (λ c. search needs) returns)

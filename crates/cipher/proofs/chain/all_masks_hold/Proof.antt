@@ -59,4 +59,7 @@ returns-2 c =
     sym (h .loop .inv .1) ∙ ap (λ (n : ℕ). every n (λ l. masksHold (roundBytes (a .r) (a .chain .now) l))) e
 
 pub all-masks-hold-spec : {M : Type 1} → statement M
-all-masks-hold-spec = tie.close (tie.spec Inv-loop μ-loop (λ c. search needs) (λ c. search needs) loop-holds (λ c. search needs) (λ c. search needs) (λ c. search needs) (λ c. search needs) (λ c. search needs) masks-hold-requires returns (λ c. search needs) (λ c. search needs) loop-again returns-2)
+all-masks-hold-spec =
+    tie.close
+    (tie.spec Inv-loop μ-loop (λ c. search needs) (λ c. search needs) loop-holds (λ c. search needs) (λ c. search needs) (λ c. search needs)
+    (λ c. search needs) (λ c. search needs) masks-hold-requires returns (λ c. search needs) (λ c. search needs) loop-again returns-2)

@@ -42,4 +42,6 @@ returns-2 c =
     sym (h .loop .inv .1) ∙ ap (λ (n : ℕ). arePermutations n (a .s .now)) e
 
 pub are-permutations-spec : {M : Type 1} → statement M
-are-permutations-spec = tie.close (tie.spec Inv-loop μ-loop loop-holds (λ c κs. search needs) returns (λ c. search needs) (λ c. search needs) loop-again returns-2)
+are-permutations-spec =
+    tie.close
+    (tie.spec Inv-loop μ-loop loop-holds (λ c κs. search needs) returns (λ c. search needs) (λ c. search needs) loop-again returns-2)

@@ -6,6 +6,7 @@ use Prim.Native.Nat.{ℕ, _+_, _*_, _≤_}
 use native.Mathlib.Omega.{arith}
 use borrow.Author.Tests.{not-true, not-false}
 use borrow.Author.Needs.{needs}
+use lib.Dec.{lit<}
 use lib.ListN.{length}
 use Rattle.cipher.specs.KeySize.{rounds, chainLength}
 use Rattle.cipher.specs.Chain.{codingRuleHolds, wordRuleHolds, maskRuleHolds}
@@ -44,7 +45,8 @@ words-kept-requires c κs =
     let r = c .before .before in
     let h = r .before in
     let a = h .before .before .before .args in
-    long (a .size) (a .chain .now) _ (r .rounds .ensures) (h .if1 .left ∙ h .before .chain-len .ensures)
+    let room = long (a .size) (a .chain .now) _ (r .rounds .ensures) (h .if1 .left ∙ h .before .chain-len .ensures) in
+    (room .0, room .1, lit< tt, lit< tt)
 
 returns-3 : tie.Need-returns-3
 returns-3 c =
@@ -85,4 +87,6 @@ returns-5 c =
     (told maskRuleHolds (a .size) (a .chain .now) _ _ true (r .rounds .ensures) (c .before .all-masks-hold .ensures) (not-false _ (c .if4 .left))))
 
 pub check-sized-spec : {M : Type 1} → statement M
-check-sized-spec = tie.close (tie.spec (λ c κs. search needs) returns (λ c κs. search needs) codings-permute-requires returns-2 words-kept-requires returns-3 all-masks-hold-requires returns-4 returns-5)
+check-sized-spec =
+    tie.close
+    (tie.spec (λ c κs. search needs) returns (λ c κs. search needs) codings-permute-requires returns-2 words-kept-requires returns-3 all-masks-hold-requires returns-4 returns-5)

@@ -55,4 +55,7 @@ returns-3 c =
     sym (h .loop .inv .2) ∙ ap (λ (n : ℕ). isOneToOne n 16 (codingAt (a .s .now) (a .k))) e
 
 pub is-permutation-spec : {M : Type 1} → statement M
-is-permutation-spec = tie.close (tie.spec Inv-loop μ-loop (λ c. search needs) loop-holds (λ c. search needs) (λ c. search needs) (λ c κs. search needs) returns (λ c. search needs) returns-2 (λ c. search needs) (λ c. search needs) (λ c. search needs) loop-again returns-3)
+is-permutation-spec =
+    tie.close
+    (tie.spec Inv-loop μ-loop (λ c. search needs) loop-holds (λ c. search needs) (λ c. search needs) (λ c κs. search needs) returns
+    (λ c. search needs) returns-2 (λ c. search needs) (λ c. search needs) (λ c. search needs) loop-again returns-3)

@@ -42,4 +42,7 @@ returns-2 c =
     sym (h .loop .inv .1) ∙ ap (λ (n : ℕ). every n (λ k. ltb (getD (a .s .now) (384 + k) 0) (maskLimit k))) e
 
 pub masks-hold-spec : {M : Type 1} → statement M
-masks-hold-spec = tie.close (tie.spec Inv-loop μ-loop loop-holds (λ c κs. search needs) (λ c. search needs) (λ c. search needs) returns (λ c. search needs) (λ c. search needs) loop-again returns-2)
+masks-hold-spec =
+    tie.close
+    (tie.spec Inv-loop μ-loop loop-holds (λ c κs. search needs) (λ c. search needs) (λ c. search needs) returns (λ c. search needs)
+    (λ c. search needs) loop-again returns-2)

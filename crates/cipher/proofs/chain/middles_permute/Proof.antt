@@ -56,4 +56,7 @@ returns-2 c =
     sym (h .loop .inv .1) ∙ ap (λ (n : ℕ). every n (λ l. arePermutations 24 (roundBytes (a .r) (a .chain .now) l))) e
 
 pub middles-permute-spec : {M : Type 1} → statement M
-middles-permute-spec = tie.close (tie.spec Inv-loop μ-loop (λ c. search needs) (λ c. search needs) loop-holds (λ c. search needs) (λ c. search needs) (λ c. search needs) (λ c. search needs) (λ c. search needs) are-permutations-requires returns (λ c. search needs) (λ c. search needs) loop-again returns-2)
+middles-permute-spec =
+    tie.close
+    (tie.spec Inv-loop μ-loop (λ c. search needs) (λ c. search needs) loop-holds (λ c. search needs) (λ c. search needs) (λ c. search needs)
+    (λ c. search needs) (λ c. search needs) are-permutations-requires returns (λ c. search needs) (λ c. search needs) loop-again returns-2)

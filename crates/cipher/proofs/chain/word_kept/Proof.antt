@@ -14,10 +14,10 @@ use Rattle.cipher.proofs.chain.word_kept.Statement.{statement}
 use Rattle.cipher.proofs.chain.word_kept.Tie as tie
 
 abbrev Inv-loop : tie.InvT-loop
-Inv-loop before after k₀ k = (k ≤ 128) × (every k (λ k. eqb (getD after (128 * 3 + k) 0) (getD before k 0)) ≡ true)
+Inv-loop before from after to k₀ k = (k ≤ 128) × (every k (λ k. eqb (getD after (128 * to + k) 0) (getD before (128 * from + k) 0)) ≡ true)
 
 abbrev μ-loop : tie.MeasureT-loop
-μ-loop before after k₀ k = 128 - k
+μ-loop before from after to k₀ k = 128 - k
 
 loop-holds : tie.Need-loop-holds Inv-loop μ-loop
 unfolding every
@@ -38,7 +38,10 @@ returns-2 c =
     let h = c .before in
     let a = h .before .args in
     let e : h .loop .k ≡ 128 = omega arith in
-    sym (h .loop .inv .1) ∙ ap (λ (n : ℕ). every n (λ k. eqb (getD (a .after .now) (128 * 3 + k) 0) (getD (a .before .now) k 0))) e
+    sym (h .loop .inv .1) ∙ ap (λ (n : ℕ). every n (λ k. eqb (getD (a .after .now) (128 * a .to + k) 0) (getD (a .before .now) (128 * a .from + k) 0))) e
 
 pub word-kept-spec : {M : Type 1} → statement M
-word-kept-spec = tie.close (tie.spec Inv-loop μ-loop loop-holds (λ c. search needs) (λ c. search needs) (λ c. search needs) (λ c. search needs) returns (λ c. search needs) (λ c. search needs) loop-again returns-2)
+word-kept-spec =
+    tie.close
+    (tie.spec Inv-loop μ-loop loop-holds (λ c. search needs) (λ c. search needs) (λ c. search needs) (λ c. search needs) (λ c. search needs)
+    (λ c. search needs) returns (λ c. search needs) (λ c. search needs) loop-again returns-2)

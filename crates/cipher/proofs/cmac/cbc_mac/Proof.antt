@@ -89,4 +89,11 @@ returns c =
     h .loop .inv .2 ∙ (λ i. words4 (C.cbcMac (L.firstRounds (a .t1) (r i)) zeros (cut (all i) (a .text .now))))
 
 pub cbc-mac-spec : {M : Type 1} → statement M
-cbc-mac-spec = tie.close (tie.spec Inv-loop2 μ-loop2 Inv-loop μ-loop (λ c κs. search needs) loop-holds (λ c. search needs) (λ c. search needs) (λ c. search needs) (λ c. search needs) words-requires (λ c κs. search needs) loop2-holds (λ c. search needs) (λ c. search needs) (λ c. search needs) (λ c. search needs) (λ c. search needs) (λ c. search needs) (λ c. search needs) (λ c. search needs) (λ c. search needs) (λ c. search needs) (λ c. search needs) (λ c. search needs) (λ c. search needs) (λ c. search needs) (λ c. search needs) (λ c κs. search needs) (λ c. search needs) (λ c. search needs) loop2-again (λ c. search needs) (λ c. search needs) loop-again returns)
+cbc-mac-spec =
+    tie.close
+    (tie.spec Inv-loop2 μ-loop2 Inv-loop μ-loop (λ c κs. search needs) loop-holds (λ c. search needs) (λ c. search needs)
+    (λ c. search needs) (λ c. search needs) words-requires (λ c κs. search needs) loop2-holds (λ c. search needs) (λ c. search needs)
+    (λ c. search needs) (λ c. search needs) (λ c. search needs) (λ c. search needs) (λ c. search needs) (λ c. search needs)
+    (λ c. search needs) (λ c. search needs) (λ c. search needs) (λ c. search needs) (λ c. search needs) (λ c. search needs)
+    (λ c. search needs) (λ c κs. search needs) (λ c. search needs) (λ c. search needs) loop2-again (λ c. search needs) (λ c. search needs)
+    loop-again returns)

@@ -50,4 +50,8 @@ returns : tie.Need-returns Inv-loop μ-loop
 returns c = tab-full _ _ _ 16 (c .before .loop .l) (c .before .loop .inv .2) (omega arith) (omega arith)
 
 pub image-row-spec : {M : Type 1} → statement M
-image-row-spec = tie.close (tie.spec Inv-loop μ-loop (λ c. search needs) (λ c. search needs) (λ c. search needs) (λ c. search needs) (λ c. search needs) mul-high loop-holds (λ c. search needs) (λ c. search needs) add-out-2 (λ c. search needs) (λ c. search needs) (λ c. search needs) loop-again same-length returns)
+image-row-spec =
+    tie.close
+    (tie.spec Inv-loop μ-loop (λ c. search needs) (λ c. search needs) (λ c. search needs) (λ c. search needs) (λ c. search needs) mul-high
+    loop-holds (λ c. search needs) (λ c. search needs) add-out-2 (λ c. search needs) (λ c. search needs) (λ c. search needs) loop-again
+    same-length returns)

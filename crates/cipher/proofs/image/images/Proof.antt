@@ -49,4 +49,7 @@ returns : tie.Need-returns Inv-loop μ-loop
 returns c = chunks-full _ _ _ 256 (c .before .loop .r) (c .before .loop .a) (c .before .loop .inv .3) (omega arith) (omega arith) ∙ images-rows (c .before .before .before .before .args .set .now)
 
 pub images-spec : {M : Type 1} → statement M
-images-spec = tie.close (tie.spec Inv-loop μ-loop loop-holds (λ c. search needs) (λ c. search needs) (λ c. search needs) (λ c. search needs) image-row-requires (λ c. search needs) (λ c. search needs) loop-again same-length returns)
+images-spec =
+    tie.close
+    (tie.spec Inv-loop μ-loop loop-holds (λ c. search needs) (λ c. search needs) (λ c. search needs) (λ c. search needs) image-row-requires
+    (λ c. search needs) (λ c. search needs) loop-again same-length returns)

@@ -41,4 +41,7 @@ unfolding imaged
 returns c = tab-full _ _ _ 16 (c .before .loop .k) (c .before .loop .inv .2) (omega arith) (omega arith)
 
 pub look-up-spec : {M : Type 1} → statement M
-look-up-spec = tie.close (tie.spec Inv-loop μ-loop loop-holds (λ c. search needs) (λ c. search needs) (λ c κs. search needs) (λ c. search needs) shared-slice-read-out (λ c. search needs) (λ c. search needs) (λ c. search needs) loop-again same-length returns)
+look-up-spec =
+    tie.close
+    (tie.spec Inv-loop μ-loop loop-holds (λ c. search needs) (λ c. search needs) (λ c κs. search needs) (λ c. search needs)
+    shared-slice-read-out (λ c. search needs) (λ c. search needs) (λ c. search needs) loop-again same-length returns)

@@ -48,4 +48,7 @@ unfolding inverted
 returns c = chunks-full _ _ _ _ (c .before .loop .k) (c .before .loop .a) (c .before .loop .inv .3) (omega arith) (omega arith)
 
 pub invert-spec : {M : Type 1} → statement M
-invert-spec = tie.close (tie.spec Inv-loop μ-loop loop-holds (λ c. search needs) (λ c. search needs) (λ c. search needs) (λ c. search needs) invert-one-requires (λ c. search needs) (λ c. search needs) loop-again same-length returns)
+invert-spec =
+    tie.close
+    (tie.spec Inv-loop μ-loop loop-holds (λ c. search needs) (λ c. search needs) (λ c. search needs) (λ c. search needs) invert-one-requires
+    (λ c. search needs) (λ c. search needs) loop-again same-length returns)

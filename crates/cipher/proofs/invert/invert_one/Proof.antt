@@ -27,10 +27,12 @@ slice-write-out c =
 
 loop-again : tie.Need-loop-again Inv-loop μ-loop
 loop-again c =
-    let s = c .before .before .before in (
+    let s = c .before .before .before in
+    let e = s .before .before .before in (
       omega arith,
       simp length-set (s .loop .inv .1),
-      placed-turn (codingAt (s .before .before .before .args .codings .now) (s .before .before .before .args .k)) (s .before .before .before .pre .2) (s .loop .out) (s .loop .v) (c .wide .result) (s .loop .inv .1) (omega arith) (c .wide .ensures .0) (s .loop .inv .2),
+      placed-turn (codingAt (e .args .codings .now) (e .args .k)) (e .pre .2) (s .loop .out) (s .loop .v) (c .wide .result) (s .loop .inv .1)
+          (omega arith) (c .wide .ensures .0) (s .loop .inv .2),
     )
 
 same-length : tie.Need-same-length Inv-loop μ-loop
@@ -42,4 +44,7 @@ returns c =
     sym (inverse-is _ (s .before .before .before .pre .2) _ (s .loop .inv .1) (λ w h. s .loop .inv .2 w (omega arith)))
 
 pub invert-one-spec : {M : Type 1} → statement M
-invert-one-spec = tie.close (tie.spec Inv-loop μ-loop loop-holds (λ c. search needs) (λ c. search needs) (λ c. search needs) (λ c κs. search needs) (λ c. search needs) slice-write-out (λ c. search needs) (λ c. search needs) loop-again same-length returns)
+invert-one-spec =
+    tie.close
+    (tie.spec Inv-loop μ-loop loop-holds (λ c. search needs) (λ c. search needs) (λ c. search needs) (λ c κs. search needs)
+    (λ c. search needs) slice-write-out (λ c. search needs) (λ c. search needs) loop-again same-length returns)

@@ -29,4 +29,7 @@ returns c =
     h .loop .inv .1 ∙ ap (λ (n : ℕ). L.forward (a .t1) n (a .block)) e
 
 pub first-rounds-spec : {M : Type 1} → statement M
-first-rounds-spec = tie.close (tie.spec Inv-loop μ-loop loop-holds (λ c. search needs) (λ c. search needs) (λ c κs. search needs) (λ c. search needs) (λ c. search needs) loop-again returns)
+first-rounds-spec =
+    tie.close
+    (tie.spec Inv-loop μ-loop loop-holds (λ c. search needs) (λ c. search needs) (λ c κs. search needs) (λ c. search needs)
+    (λ c. search needs) loop-again returns)

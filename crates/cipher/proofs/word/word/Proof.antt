@@ -6,4 +6,7 @@ use Rattle.cipher.proofs.word.word.Tie as tie
 
 pub word-spec : {M : Type 1} → statement M
 unfolding W.word
-word-spec = tie.close (tie.spec (λ c. search needs) (λ c. search needs) (λ c. search needs) (λ c. search needs) (λ c. search needs) (λ c. search needs) (λ c. search needs))
+word-spec =
+    tie.close
+    (tie.spec (λ c. search needs) (λ c. search needs) (λ c. search needs) (λ c. search needs) (λ c. search needs) (λ c. search needs)
+    (λ c. search needs))

@@ -47,4 +47,7 @@ returns : tie.Need-returns Inv-loop μ-loop
 returns c = chunks-full _ _ _ 24 (c .before .loop .p) (c .before .loop .at) (c .before .loop .inv .3) (omega arith) (omega arith)
 
 pub add-tables-spec : {M : Type 1} → statement M
-add-tables-spec = tie.close (tie.spec Inv-loop μ-loop loop-holds (λ c. search needs) (λ c. search needs) (λ c. search needs) (λ c. search needs) add-table-requires (λ c. search needs) (λ c. search needs) loop-again same-length returns)
+add-tables-spec =
+    tie.close
+    (tie.spec Inv-loop μ-loop loop-holds (λ c. search needs) (λ c. search needs) (λ c. search needs) (λ c. search needs) add-table-requires
+    (λ c. search needs) (λ c. search needs) loop-again same-length returns)

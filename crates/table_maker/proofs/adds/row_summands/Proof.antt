@@ -6,13 +6,13 @@ use native.Mathlib.Omega.{arith}
 use borrow.Author.Needs.{needs}
 use lib.ListN.{replicate}
 use Rattle.lists.specs.Tabulation.{tab}
-use Rattle.lists.proofs.PartLaws.{fill-turn, fill-full}
+use Rattle.table_maker.proofs.RowLaws.{Filled, fill-next, fill-done}
 use Rattle.table_maker.specs.Made.{summands}
 use Rattle.table_maker.proofs.adds.row_summands.Statement.{statement}
 use Rattle.table_maker.proofs.adds.row_summands.Tie as tie
 
 abbrev Inv-loop : tie.InvT-loop
-Inv-loop s at k m a₀ x₀ a x = (x ≤ 32) × (a ≡ tab x (summands s at k m) ++ replicate (32 - x) 0)
+Inv-loop s at k m a₀ x₀ a x = Filled (summands s at k m) 32 a x
 
 abbrev μ-loop : tie.MeasureT-loop
 μ-loop s at k m a₀ x₀ a x = 32 - x
@@ -31,10 +31,13 @@ loop-again : tie.Need-loop-again Inv-loop μ-loop
 loop-again c =
     let s = c .before .before .before in
     let a = s .before .before .args in
-    (omega arith, fill-turn (summands (a .s .now) (a .at) (a .k) (a .m)) 32 (s .loop .a) (s .loop .x) (c .summand .result) (s .loop .inv .1) (c .summand .ensures) (omega arith))
+    fill-next (summands (a .s .now) (a .at) (a .k) (a .m)) 32 (s .loop .a) (s .loop .x) _ (s .loop .inv) (c .summand .ensures) (omega arith)
 
 returns : tie.Need-returns Inv-loop μ-loop
-returns c = fill-full _ 32 _ (c .before .loop .x) (c .before .loop .inv .1) (omega arith)
+returns c = fill-done _ 32 _ (c .before .loop .x) (c .before .loop .inv) (omega arith)
 
 pub row-summands-spec : {M : Type 1} → statement M
-row-summands-spec = tie.close (tie.spec Inv-loop μ-loop loop-holds (λ c. search needs) (λ c. search needs) summand-requires (λ c. search needs) (λ c. search needs) (λ c. search needs) loop-again returns)
+row-summands-spec =
+    tie.close
+    (tie.spec Inv-loop μ-loop loop-holds (λ c. search needs) (λ c. search needs) summand-requires (λ c. search needs) (λ c. search needs)
+    (λ c. search needs) loop-again returns)

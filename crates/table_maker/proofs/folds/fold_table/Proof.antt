@@ -10,16 +10,24 @@ use Rattle.table_maker.proofs.folds.fold_table.Tie as tie
 
 xor-table-requires : tie.Need-xor-table-requires
 xor-table-requires c κs =
-    let e = c .before .before .before .before .before .before .before .before .before .before in
-    fold-fits (e .args .s .now) (e .args .u .now) (e .args .first .now) _ _ _ _ _ _ (c .before .before .before .before .keyed .ensures) (part-end (e .args .u .now) (16 * e .args .p)) (part-end (e .args .first .now) (16 * e .args .p))
-    (e .pre .2) (e .pre .4) (c .before .before .before .before .before .block-half .ensures .1) (omega arith) (omega arith) (e .pre .6)
+    let at-keyed = c .before .before .before .before in
+    let at-block-half = at-keyed .before in
+    let e = at-block-half .before .before .before .before .before in
+    fold-fits (e .args .s .now) (e .args .u .now) (e .args .first .now) _ _ _ _ _ _ (at-keyed .keyed .ensures)
+    (part-end (e .args .u .now) (16 * e .args .p)) (part-end (e .args .first .now) (16 * e .args .p))
+    (e .pre .2) (e .pre .4) (at-block-half .block-half .ensures .1) (omega arith) (omega arith) (e .pre .6)
 
 returns : tie.Need-returns
 returns c =
     let d = c .before .before .before in
-    let e = d .before .before .before .before .before .before .before .before .before .before in
+    let at-keyed = d .before .before .before .before in
+    let e = at-keyed .before .before .before .before .before .before in
     c .before .before .xor-table .ensures
-    ∙ fold-made _ _ _ _ _ _ _ _ _ (d .before .before .before .before .keyed .ensures) (part-end (e .args .u .now) (16 * e .args .p)) (part-end (e .args .first .now) (16 * e .args .p)) (d .before .before .before .before .before .block-half .ensures .0)
+    ∙ fold-made _ _ _ _ _ _ _ _ _ (at-keyed .keyed .ensures) (part-end (e .args .u .now) (16 * e .args .p)) (part-end (e .args .first .now) (16 * e .args .p))
+    (at-keyed .before .block-half .ensures .0)
 
 pub fold-table-spec : {M : Type 1} → statement M
-fold-table-spec = tie.close (tie.spec (λ c. search needs) (λ c κs. search needs) (λ c κs. search needs) (λ c. search needs) (λ c. search needs) (λ c. search needs) (λ c. search needs) (λ c. search needs) (λ c. search needs) (λ c. search needs) xor-table-requires (λ c. search needs) returns)
+fold-table-spec =
+    tie.close
+    (tie.spec (λ c. search needs) (λ c κs. search needs) (λ c κs. search needs) (λ c. search needs) (λ c. search needs) (λ c. search needs)
+    (λ c. search needs) (λ c. search needs) (λ c. search needs) (λ c. search needs) xor-table-requires (λ c. search needs) returns)

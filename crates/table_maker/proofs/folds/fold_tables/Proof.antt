@@ -37,7 +37,8 @@ loop-again c =
       omega arith,
       omega arith,
       same-len-mid (s .loop .at) (s .loop .at + 256 - s .loop .at) (s .loop .out) (call .fold-table .last .1 .1 .1 .1 .1 .0) (call .fold-table .kept .1 .1 .1 .1 .1 .0) ∙ s .loop .inv .2,
-      chunks-turn (madeFold (a .s .now) (a .u .now) (a .first .now) (a .k)) 256 (length-fold (a .s .now) (a .u .now) (a .first .now) (a .k)) _ _ _ _ _ (s .loop .inv .3) (s .loop .inv .1) (call .fold-table .ensures),
+      chunks-turn (madeFold (a .s .now) (a .u .now) (a .first .now) (a .k)) 256 (length-fold (a .s .now) (a .u .now) (a .first .now) (a .k)) _ _ _ _ _
+          (s .loop .inv .3) (s .loop .inv .1) (call .fold-table .ensures),
     )
 
 same-length : tie.Need-same-length Inv-loop μ-loop
@@ -47,4 +48,7 @@ returns : tie.Need-returns Inv-loop μ-loop
 returns c = chunks-full _ _ _ 32 (c .before .loop .p) (c .before .loop .at) (c .before .loop .inv .3) (omega arith) (omega arith)
 
 pub fold-tables-spec : {M : Type 1} → statement M
-fold-tables-spec = tie.close (tie.spec Inv-loop μ-loop loop-holds (λ c. search needs) (λ c. search needs) (λ c. search needs) (λ c. search needs) fold-table-requires (λ c. search needs) (λ c. search needs) loop-again same-length returns)
+fold-tables-spec =
+    tie.close
+    (tie.spec Inv-loop μ-loop loop-holds (λ c. search needs) (λ c. search needs) (λ c. search needs) (λ c. search needs) fold-table-requires
+    (λ c. search needs) (λ c. search needs) loop-again same-length returns)

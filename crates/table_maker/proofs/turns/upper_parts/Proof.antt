@@ -6,13 +6,13 @@ use native.Mathlib.Omega.{arith}
 use borrow.Author.Needs.{needs}
 use lib.ListN.{replicate}
 use Rattle.lists.specs.Tabulation.{tab}
-use Rattle.lists.proofs.PartLaws.{fill-turn, fill-full}
+use Rattle.table_maker.proofs.RowLaws.{Filled, fill-next, fill-done}
 use Rattle.table_maker.specs.Made.{upperParts}
 use Rattle.table_maker.proofs.turns.upper_parts.Statement.{statement}
 use Rattle.table_maker.proofs.turns.upper_parts.Tie as tie
 
 abbrev Inv-loop : tie.InvT-loop
-Inv-loop s at i a₀ q₀ a q = (q ≤ 16) × (a ≡ tab q (upperParts s at i) ++ replicate (16 - q) 0)
+Inv-loop s at i a₀ q₀ a q = Filled (upperParts s at i) 16 a q
 
 abbrev μ-loop : tie.MeasureT-loop
 μ-loop s at i a₀ q₀ a q = 16 - q
@@ -31,10 +31,13 @@ loop-again : tie.Need-loop-again Inv-loop μ-loop
 loop-again c =
     let s = c .before .before .before in
     let a = s .before .before .args in
-    (omega arith, fill-turn (upperParts (a .s .now) (a .at) (a .i)) 16 (s .loop .a) (s .loop .q) (c .upper-part .result) (s .loop .inv .1) (c .upper-part .ensures) (omega arith))
+    fill-next (upperParts (a .s .now) (a .at) (a .i)) 16 (s .loop .a) (s .loop .q) _ (s .loop .inv) (c .upper-part .ensures) (omega arith)
 
 returns : tie.Need-returns Inv-loop μ-loop
-returns c = fill-full _ 16 _ (c .before .loop .q) (c .before .loop .inv .1) (omega arith)
+returns c = fill-done _ 16 _ (c .before .loop .q) (c .before .loop .inv) (omega arith)
 
 pub upper-parts-spec : {M : Type 1} → statement M
-upper-parts-spec = tie.close (tie.spec Inv-loop μ-loop loop-holds (λ c. search needs) (λ c. search needs) upper-part-requires (λ c. search needs) (λ c. search needs) (λ c. search needs) loop-again returns)
+upper-parts-spec =
+    tie.close
+    (tie.spec Inv-loop μ-loop loop-holds (λ c. search needs) (λ c. search needs) upper-part-requires (λ c. search needs) (λ c. search needs)
+    (λ c. search needs) loop-again returns)
