@@ -5,6 +5,7 @@ use mathlib.Core.List.{List, _++_}
 use Prim.Native.Nat.{ℕ, _≤_, _<_}
 use lib.ListN.{length, drop}
 use Rattle.cipher.specs.Coding.{setOf}
+use Rattle.cipher.specs.Book.{bookBody}
 use Rattle.pad.specs.Padding.{paddedForSealing, codedText}
 use Rattle.pad.specs.Answers.{sealingAnswer}
 use Rattle.driver.specs.Driver.{sealed, sealAnswer}
@@ -15,7 +16,7 @@ abbrev pub codeOf : List ℕ → List ℕ → List ℕ
 codeOf u m = codedText (setOf u) (paddedForSealing m)
 
 abbrev pub fileOf : List ℕ → List ℕ → List ℕ → List ℕ → List ℕ
-fileOf u bk iv m = sealed bk iv (codeOf u m)
+fileOf u bk iv m = sealed (bookBody bk) iv (codeOf u m)
 
 -- a call that writes x into the front of a buffer and tells its length; it gives refusal 9 exactly where the buffer is shorter
 -- than `room`, and no other

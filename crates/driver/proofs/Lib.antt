@@ -1,3 +1,4 @@
 pub mod PassLaws
+pub mod AdmitLaws
 pub mod AnswerLaws
 pub mod SealLaws
