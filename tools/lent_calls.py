@@ -9,7 +9,7 @@ three functions have one shape,
     { let r = CALLEE(*s, p1, .., pn); *s = r.session; r.ANSWER }
 
 where CALLEE is the call by value, its result a struct of ANSWER and session whose promise, `TOLD r ≡ SPEC ..`, is the same
-equation; each p is a &[u8] or a u8. So they are written here, from the one walk. Run it from the repository's root."""
+equation; each p is a &[u8] or a u8. So they are written here, from the one walk. Run it from the repository's root, and then `rt fmt`."""
 import pathlib
 
 CALLS = [
@@ -30,6 +30,29 @@ def tup(xs):
 
 def move(*places):
     return 'move ! (' + ''.join(f'{k} ∷ ' for k in places) + '[]) $ '
+
+
+def broken(line, width=160):
+    """A line of antt in lines of at most `width` characters."""
+    if len(line) <= width:
+        return [line]
+    indent = len(line) - len(line.lstrip())
+    if line.startswith('use '):
+        at = line.rfind(', ', 0, width)
+        return [line[:at] + '}'] + broken(line[:line.index('{') + 1] + line[at + 2:])
+    at = line.rfind(' $ ', 0, width)
+    if at > 0:  # a step of a walk ends: the next one stands below it
+        return [line[:at + 2]] + broken(' ' * indent + line[at + 3:])
+    depths, depth = [], 0
+    for c in line:
+        depth += (c in '([{') - (c in ')]}')
+        depths.append(depth)
+    spaces = [k for k in range(indent + 20, width) if line[k] == ' ']
+    least = min(depths[k] for k in spaces)
+    arrows = [k for k in spaces if depths[k] == 0 and line[k + 1] == '→']
+    at = max(arrows or [k for k in spaces if depths[k] == least])
+    more = indent if line.lstrip()[0] in '(→' else indent + 4
+    return [line[:at]] + broken(' ' * more + line[at + 1:])
 
 
 def written(F, callee, out, told, answer, path, layout, kinds, spec):
@@ -291,7 +314,7 @@ unfolding code.routine tablesOf
     (tables 𝓤 H 𝓜 𝓡 code.env .C) (tables 𝓤 H 𝓜 𝓡 code.env .Λ) {key} code.function (code.unfolded 𝓤 H 𝓜 𝓡)
     (meets 𝓤 H (𝓖 .A) (givenOf 𝓤 H 𝓜 𝓖) (𝓜 .mem) (𝓡 .run) (tablesOf 𝓤 H 𝓜 (tables 𝓤 H 𝓜 𝓡 code.env))
     (cited 𝓤 H (Step 𝓤 H (𝓖 .A) (𝓜 .mem) (𝓡 .run)) 𝓜 𝓡 code.env {ckey} step-def.routine code.calls-driver·session·{ckebab} (step-thm.met 𝓤 H 𝓜 𝓖 𝓡)))''')
-    return '\n'.join(w) + '\n'
+    return '\n'.join(part for line in '\n'.join(w).split('\n') for part in broken(line)) + '\n'
 
 
 for call in CALLS:
