@@ -2,3 +2,4 @@ pub mod PassLaws
 pub mod AdmitLaws
 pub mod AnswerLaws
 pub mod SealLaws
+pub mod SessionLaws
