@@ -28,10 +28,10 @@ abbrev Kept : Session → ℕ → Session → Type 0
 Kept s n t = Fits t × ((n ≡ 0 → ⊥) → t ≡ s)
 
 -- what holds of every refusal, and of what is done where no test applies
-either : {A : Type 0} (P : A → Type 0) (ts : List (Bool × ℕ)) (refuse : ℕ → A) (go : A) → ((q : ℕ) → P (refuse q)) → (Clear ts → P go) → P (first ts refuse go)
+pub first-either : {A : Type 0} (P : A → Type 0) (ts : List (Bool × ℕ)) (refuse : ℕ → A) (go : A) → ((q : ℕ) → P (refuse q)) → (Clear ts → P go) → P (first ts refuse go)
 unfolding first
-either P [] refuse go h d = d tt
-either {A} P (t ∷ ts) refuse go h d = each (t .0) refl (either P ts refuse go h)
+first-either P [] refuse go h d = d tt
+first-either {A} P (t ∷ ts) refuse go h d = each (t .0) refl (first-either P ts refuse go h)
   where
     each : (b : Bool) → t .0 ≡ b → ((Clear ts → P go) → P (first ts refuse go)) → P (cond b (refuse (t .1)) (first ts refuse go))
     each true e k = h (t .1)
@@ -44,7 +44,7 @@ module _ (bk m : List ℕ) (s : Session) (f : Fits s) where
   pub block-kept : Kept s (blockAnswer bk m s .0) (blockAnswer bk m s .1)
   unfolding blockAnswer
   block-kept =
-      either (λ (a : ℕ × Session). Kept s (a .0) (a .1)) (bookTests bk ++ (blockTests m ++ (finishedTests s ++ fullTests s))) (λ q. (q, s))
+      first-either (λ (a : ℕ × Session). Kept s (a .0) (a .1)) (bookTests bk ++ (blockTests m ++ (finishedTests s ++ fullTests s))) (λ q. (q, s))
       (0, moved s (pass (bookBody bk) 0 (s .block) m))
       (λ q. (f, λ n. refl))
       (λ c.
@@ -54,7 +54,7 @@ module _ (bk m : List ℕ) (s : Session) (f : Fits s) where
   pub last-kept : (k : ℕ) → Kept s (lastAnswer bk m k s .0 .0) (lastAnswer bk m k s .1)
   unfolding lastAnswer
   last-kept k =
-      either (λ (a : (ℕ × List ℕ) × Session). Kept s (a .0 .0) (a .1)) (bookTests bk ++ (blockTests m ++ (kindTests k ++ finishedTests s)))
+      first-either (λ (a : (ℕ × List ℕ) × Session). Kept s (a .0 .0) (a .1)) (bookTests bk ++ (blockTests m ++ (kindTests k ++ finishedTests s)))
       (λ q. ((q, zeros), s)) ((0, pass (bookBody bk) (suc k) (s .block) m), closed s)
       (λ q. (f, λ n. refl))
       (λ c. (record { size = f .size; count = f .count }, λ n. absurd (n refl)))

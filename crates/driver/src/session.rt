@@ -63,17 +63,22 @@ pub fn begin_over(s: Session, book: &[u8]) -> SessionAnswer
     }
 }
 
-// A fresh session on a book. Where the book is refused there is none, and what is handed back is a
-// finished one, which takes no call.
-pub fn begin(book: &[u8]) -> SessionAnswer
-    ensures { λ r. ⌜ D.sessionTold r ≡ D.beginAnswer (now (book .entry)) ⌝ }
+// A finished session of zeros, which takes no call: it stands where there is none.
+pub fn spent() -> Session
+    ensures { λ r. ⌜ r ≡ D.spent ⌝ }
 {
-    let none = Session {
+    Session {
         block: [0u8; 16],
         taken: 0,
         finished: true,
-    };
-    begin_over(none, book)
+    }
+}
+
+// A fresh session on a book. Where the book is refused there is none, and a spent one is handed back.
+pub fn begin(book: &[u8]) -> SessionAnswer
+    ensures { λ r. ⌜ D.sessionTold r ≡ D.beginAnswer (now (book .entry)) ⌝ }
+{
+    begin_over(spent(), book)
 }
 
 // A block call.
