@@ -39,21 +39,15 @@ module _ {A : Type 0} (answer : (ℕ × A) × List ℕ) (t : ℕ × A) (x : List
       go zero l = absurd (omega arith)
       go (suc k) l = refl
 
--- a tag t that was delivered with number n of an answer a, and beside it a session's record s
-module _ (a : ℕ × List ℕ) (n : ℕ) (t old : List ℕ) (s held : List ℕ) (e : (n, t) ≡ into a old) where
-  pub tag-taken : n ≡ 0 → (n, (t, s)) ≡ into {A = List ℕ × List ℕ} (a .0, (a .1, s)) (old, held)
-  tag-taken h = go a e
-    where
-      go : (a : ℕ × List ℕ) → (n, t) ≡ into a old → (n, (t, s)) ≡ into {A = List ℕ × List ℕ} (a .0, (a .1, s)) (old, held)
-      go (zero, v) e = ap (λ (p : ℕ × List ℕ). (p .0, (p .1, s))) e
-      go (suc q, v) e = let f : n ≡ suc q = ap (λ (p : ℕ × List ℕ). p .0) e in absurd (omega arith)
-
-  pub tag-refused : (n ≡ 0 → ⊥) → (n, (t, held)) ≡ into {A = List ℕ × List ℕ} (a .0, (a .1, s)) (old, held)
-  tag-refused h = go a e
-    where
-      go : (a : ℕ × List ℕ) → (n, t) ≡ into a old → (n, (t, held)) ≡ into {A = List ℕ × List ℕ} (a .0, (a .1, s)) (old, held)
-      go (zero, v) e = absurd (h (ap (λ (p : ℕ × List ℕ). p .0) e))
-      go (suc q, v) e = ap (λ (p : ℕ × List ℕ). (p .0, (p .1, held))) e
+-- a tag t that was delivered with number n of an answer a, and beside it, with that number, a session's record x
+pub into-both : (a : ℕ × List ℕ) (n r : ℕ) (t old x c held : List ℕ) → (n, t) ≡ into a old → (r, c) ≡ into (n, x) held
+    → (r, (t, c)) ≡ into {A = List ℕ × List ℕ} (a .0, (a .1, x)) (old, held)
+into-both (zero, v) n r t old x c held e d =
+    let f : _≡_ {A = ℕ × List ℕ} (r, c) (0, x) = d ∙ ap (λ (p : ℕ × List ℕ). into (p .0, x) held) e in
+    λ i. (f i .0, (e i .1, f i .1))
+into-both (suc q, v) n r t old x c held e d =
+    let f : _≡_ {A = ℕ × List ℕ} (r, c) (suc q, held) = d ∙ ap (λ (p : ℕ × List ℕ). into (p .0, x) held) e in
+    λ i. (f i .0, (e i .1, f i .1))
 
 -- the number r and the number l that were delivered of what is told in t, beside what x is in the buffers
 pub kept-told : {B : Type 0} (answer : (ℕ × ℕ) × B) (t : ℕ × ℕ) (x : B) (r l old : ℕ) → (r, l) ≡ into t old → (t, x) ≡ answer → ((r, l), x) ≡ kept answer old
@@ -64,8 +58,8 @@ kept-told {B} answer t x r l old e h = ap (λ (y : ℕ × ℕ). (y, x)) e ∙ go
     go (suc n, v) = refl
 
 -- number n of an answer a that is refused with q and tells nothing
-pub told-refused : (a : ℕ × ℕ) (q : Refusal) (n old : ℕ) → (numberOf q, 0) ≡ a → n ≡ numberOf q → (n, old) ≡ into a old
-told-refused a q n old e h = ap (λ (k : ℕ). (k, old)) h ∙ go (numberOf q) (number-more q) ∙ ap (λ (b : ℕ × ℕ). into b old) e
+pub into-refused : (a : ℕ × ℕ) (q : Refusal) (n old : ℕ) → (numberOf q, 0) ≡ a → n ≡ numberOf q → (n, old) ≡ into a old
+into-refused a q n old e h = ap (λ (k : ℕ). (k, old)) h ∙ go (numberOf q) (number-more q) ∙ ap (λ (b : ℕ × ℕ). into b old) e
   where
     go : (k : ℕ) → 0 < k → (k, old) ≡ into (k, 0) old
     go zero l = absurd (omega arith)

@@ -1,2 +1,3 @@
 pub mod IntoLaws
 pub mod RecordLaws
+pub mod RecordTheorem

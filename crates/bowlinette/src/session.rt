@@ -8,7 +8,6 @@ use crate::deliver;
 use cipher::block::block_at;
 use cipher::block::put_block;
 use driver::session::Session;
-use driver::session::SessionAnswer;
 
 // A count from its two bytes.
 fn count(low: u8, high: u8) -> u16
@@ -50,14 +49,12 @@ fn record_of(s: Session) -> [u8; 19]
     b
 }
 
-// An answer's session into a record, and its number.
-fn deliver_session(a: SessionAnswer, s: &mut [u8; 19]) -> u32
-    ensures { λ r. ⌜ (r, now (s .exit)) ≡ into (recorded (D.sessionTold a)) (now (s .entry)) ⌝ }
+// The session of an answer with number n into its record.
+fn deliver_session(n: u32, session: Session, s: &mut [u8; 19]) -> u32
+    ensures { λ r. ⌜ (r, now (s .exit)) ≡ into (n, recordOf session) (now (s .entry)) ⌝ }
 {
-    let outcome = a.outcome;
-    let n = outcome.number();
     if n == 0 {
-        let b = record_of(a.session);
+        let b = record_of(session);
         *s = b;
     }
     n
@@ -68,7 +65,9 @@ fn deliver_session(a: SessionAnswer, s: &mut [u8; 19]) -> u32
 pub extern "C" fn bowlinette_begin(s: &mut [u8; 19], book: &[u8]) -> u32
     ensures { λ r. ⌜ (r, now (s .exit)) ≡ into (recorded (D.beginAnswer (now (book .entry)))) (now (s .entry)) ⌝ }
 {
-    deliver_session(driver::session::begin(book), s)
+    let a = driver::session::begin(book);
+    let outcome = a.outcome;
+    deliver_session(outcome.number(), a.session, s)
 }
 
 // A block call on the session in a record.
@@ -78,7 +77,8 @@ pub extern "C" fn bowlinette_block_call(s: &mut [u8; 19], book: &[u8], block: &[
 {
     let held = *s;
     let a = driver::session::block_call(session_in(held), book, block);
-    deliver_session(a, s)
+    let outcome = a.outcome;
+    deliver_session(outcome.number(), a.session, s)
 }
 
 // A last call on the session in a record, its tag into tag.
@@ -95,9 +95,5 @@ pub extern "C" fn bowlinette_last_call(
     let held = *s;
     let a = driver::session::last_call(session_in(held), book, block, kind);
     let n = deliver(a.answer, tag);
-    if n == 0 {
-        let b = record_of(a.session);
-        *s = b;
-    }
-    n
+    deliver_session(n, a.session, s)
 }

@@ -6,7 +6,7 @@ use Prim.Native.Nat.{ℕ, zero, suc, _+_, _*_, _<_}
 use lib.ListN.{length, getD, take, drop}
 use Rattle.lists.specs.Tabulation.{chunks, tables}
 use Rattle.lists.specs.Blocks.{zeros}
-use Rattle.cipher.specs.Lengths.{addLength, turnLength, foldLength, startLength, groupLength, roundLength, roundsStart}
+use Rattle.cipher.specs.Lengths.{addLength, turnLength, foldLength, bodyStart, startLength, groupLength, roundLength, roundsStart}
 use Rattle.cipher.specs.Lea.{firstRounds}
 use Rattle.cipher.specs.Cmac.{subkey1, subkey2}
 use Rattle.cipher.specs.Coding.{Set, coded}
@@ -51,7 +51,11 @@ bookOf r rows ch = startPart r ch ++ (chunks 3 (bookGroup r rows ch) ++ chunks r
 
 -- ---- where the parts stand
 
--- the start of a book; a book from its group g on; and a book from its round l on
+-- the body of a book, of which all that reads a book reads: nothing stands in front of it
+abbrev pub bookBody : List ℕ → List ℕ
+bookBody bk = drop bodyStart bk
+
+-- the start of a body; a body from its group g on; and a body from its round l on
 abbrev pub startOf : List ℕ → List ℕ
 startOf bk = take startLength bk
 
@@ -61,7 +65,7 @@ groupAt bk g = drop (startLength + groupLength * g) bk
 abbrev pub roundAt : List ℕ → ℕ → List ℕ
 roundAt bk l = drop (roundsStart + roundLength * l) bk
 
--- bk has the start and every entry of every table in its place: a reader of a book needs no other fact
+-- the body bk has the start and every entry of every table in its place: a reader of a book needs no other fact
 pub record Book (r : ℕ) (rows : List (List ℕ)) (ch bk : List ℕ) : Type 0 where
   pub size : length bk ≡ roundsStart + roundLength * r
   pub start : startOf bk ≡ startPart r ch

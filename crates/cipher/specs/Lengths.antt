@@ -43,7 +43,11 @@ addsLength = 12288
 abbrev pub roundLength : ℕ
 roundLength = 18432
 
--- the start of a book, a group of fold tables, and the offset of the first round
+-- the offset of a book's body, in which all its parts stand
+abbrev pub bodyStart : ℕ
+bodyStart = 0
+
+-- in the body the start, a group of fold tables, and the offset of the first round
 abbrev pub startLength : ℕ
 startLength = 16
 

@@ -12,6 +12,16 @@ pub struct BlockAnswer {
     pub block: [u8; 16],
 }
 
+// A block as an answer.
+pub fn done(block: [u8; 16]) -> BlockAnswer
+    ensures { λ r. ⌜ blockTold r ≡ (0, block) ⌝ }
+{
+    BlockAnswer {
+        outcome: Outcome::Done,
+        block,
+    }
+}
+
 // A refusal as an answer.
 pub fn refused(why: Refusal) -> BlockAnswer
     ensures { λ r. ⌜ blockTold r ≡ (numberOf why, zeros) ⌝ }

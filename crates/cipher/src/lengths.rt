@@ -39,7 +39,10 @@ pub const TURN: usize = 256;
 
 pub const FOLD: usize = 256;
 
-// The start of a book (01's term), one of its three groups of fold tables, and where its rounds begin.
+// Where the body of a book (01's term) begins, in which all its parts stand.
+pub const BODY: usize = 0;
+
+// The start of a book's body, one of its three groups of fold tables, and where its rounds begin.
 pub const START: usize = 16;
 
 pub const GROUP: usize = 8192;

@@ -1,29 +1,31 @@
--- What a fold and all rounds by a book are, decoded, and that a book's length tells its key's size; for any rows of round keys,
--- and any valid chain.
+-- What a fold and all rounds by a book's body are, decoded, and that a book with such a body is admitted; for any rows of round
+-- keys, and any valid chain.
 use mathlib.Core.Path.{_≡_, ap, _∙_}
 use mathlib.Core.List.{List}
 use Prim.Native.Nat.{ℕ, _<_}
 use native.Mathlib.Nat.{le-refl}
 use lib.Dec.{lit<}
-use lib.ListN.{length}
 use Rattle.lists.specs.Blocks.{xorBlock}
 use Rattle.lists.proofs.BlockLaws.{block-xor, xor-block-zeros}
-use Rattle.cipher.specs.KeySize.{rounds, sizeOfBook}
+use Rattle.cipher.specs.KeySize.{rounds}
 use Rattle.cipher.specs.Lea.{firstRounds}
 use Rattle.cipher.specs.Coding.{Set, Permutations, decoded}
 use Rattle.cipher.specs.Chain.{messageSet, chainSet, Chain}
-use Rattle.cipher.specs.Book.{groupKey, Book}
+use Rattle.cipher.specs.Book.{bookBody, groupKey, Book}
 use Rattle.cipher.specs.declared.size.KeySize.{KeySize}
 use Rattle.cipher.specs.declared.size.SizeFound.the-variants.{Found}
-use Rattle.cipher.proofs.KeySizeLaws.{size-of-book}
 use Rattle.cipher.proofs.CodingLaws.{block-decoded}
 use Rattle.cipher.proofs.BookMeaning.{book-through}
-use Rattle.driver.specs.Driver.{pass}
-use Rattle.driver.proofs.PassLaws.{rounds-found}
+use Rattle.driver.specs.Driver.{admitAnswer, pass}
+use Rattle.driver.proofs.PassLaws.{rounds-known}
+use Rattle.driver.proofs.AdmitLaws.{length-admitted}
 
 -- set r
 pub last-permutes : (z : KeySize) (ch : List ℕ) → Chain z ch → Permutations (chainSet ch (rounds z))
 last-permutes z ch v = v .codings .sets (rounds z) (le-refl (rounds z))
+
+pub book-found : (z : KeySize) (rows : List (List ℕ)) (ch bk : List ℕ) → Book (rounds z) rows ch (bookBody bk) → admitAnswer bk ≡ (0, Found z)
+book-found z rows ch bk h = length-admitted bk z (h .size)
 
 module _ (z : KeySize) (rows : List (List ℕ)) (ch bk : List ℕ) (v : Chain z ch) (h : Book (rounds z) rows ch bk) where
   abbrev E : List ℕ → List ℕ
@@ -35,15 +37,12 @@ module _ (z : KeySize) (rows : List (List ℕ)) (ch bk : List ℕ) (v : Chain z 
   abbrev S : Set
   S = chainSet ch (rounds z)
 
-  pub book-found : sizeOfBook (length bk) ≡ Found z
-  book-found = ap sizeOfBook (h .size) ∙ size-of-book z
-
   -- a fold by group g, then all rounds; and by group one
   pub pass-decoded : (g : ℕ) → g < 3 → (x m : List ℕ)
       → decoded (chainSet ch (rounds z)) (pass bk g x m)
       ≡ firstRounds rows (rounds z) (xorBlock (xorBlock (decoded (chainSet ch (rounds z)) x) (decoded (messageSet ch) m)) (groupKey (firstRounds rows (rounds z)) g))
   unfolding pass
-  pass-decoded g l x m = rw (rounds-found z bk book-found) (book-through z rows ch bk v h g l x m)
+  pass-decoded g l x m = rw (rounds-known z bk (h .size)) (book-through z rows ch bk v h g l x m)
 
   pub pass-block : (x m : List ℕ) → decoded (chainSet ch (rounds z)) (pass bk 0 x m)
       ≡ firstRounds rows (rounds z) (xorBlock (decoded (chainSet ch (rounds z)) x) (decoded (messageSet ch) m))

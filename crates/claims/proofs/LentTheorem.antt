@@ -14,7 +14,7 @@ use Rattle.claims.specs.Model.{Call, Answer}
 use Rattle.claims.specs.Calls.{driverCall, run, driverAnswers, Lent, none, then, modelAnswers}
 use Rattle.claims.specs.Built.{Built, bookIn, keyRounds}
 use Rattle.claims.specs.Demand3.{LentLikeModel}
-use Rattle.claims.proofs.BuiltLaws.{built-chain, built-book}
+use Rattle.claims.proofs.BuiltLaws.{built-book}
 use Rattle.claims.proofs.BookPasses.{book-found}
 use Rattle.claims.proofs.SessionTheorem.{session-built}
 
@@ -29,7 +29,7 @@ pub lent-built : (key ch out held : List ℕ) → Built key ch out held → (s�
 unfolding driverAnswers
 lent-built key ch out held b s₀ s q e =
     let bk = bookIn key held in
-    let known = book-found (keySize key) (keyRows (keySize key) key) ch bk (built-chain key ch out held b) (built-book key ch out held b) in
+    let known = book-found (keySize key) (keyRows (keySize key) key) ch bk (built-book key ch out held b) in
     let fresh = e ∙ over-done bk s₀ _ known in (
       ap (λ (r : ℕ × Session). r .0) fresh,
       λ cs rs l. lent-run bk l ∙ ap (λ (r : ℕ × Session). run (driverCall bk) cs (r .1)) (fresh ∙ sym (begin-done bk _ known)) ∙ session-built key ch out held b cs,

@@ -1,11 +1,10 @@
 -- Refused calls change nothing: the tags among the answers to a list of calls are those among the answers to its accepted calls
 -- alone.
 use mathlib.Core.Path.{_≡_, refl, ap, _∙_}
-use mathlib.Core.Bool.{Bool, true, false, cond}
 use mathlib.Core.List.{List, [], _∷_}
 use Prim.Native.Nat.{ℕ}
-use Rattle.lists.specs.Refusals.{first}
 use Rattle.cipher.specs.Coding.{Set}
+use Rattle.driver.proofs.SessionLaws.{first-either}
 use Rattle.claims.specs.Model.{Call, blockCall, lastCall, Answer, accepted, tag, refused, State, refusals, blockTaken, tagOf, lastTaken, modelCall}
 use Rattle.claims.specs.Calls.{run, acceptedCalls, tagsOf}
 
@@ -28,21 +27,11 @@ module _ (f : Call → State → Answer × State) (fair : (c : Call) (s : State)
       go r (gives {t} {s'}) e k =
           ap (λ (r : Answer × State). tagsOf (r .0 ∷ run f (acceptedCalls cs (run f cs s')) (r .1))) e ∙ ap {B = List (List ℕ)} (λ l. t ∷ l) (k s')
 
--- what holds of every refusal and of what is done otherwise
-either : {A : Type 0} (P : A → Type 0) (ts : List (Bool × ℕ)) (refuse : ℕ → A) (go : A) → ((q : ℕ) → P (refuse q)) → P go → P (first ts refuse go)
-unfolding first
-either P [] refuse go h d = d
-either {A} P (t ∷ ts) refuse go h d = by (t .0) (either P ts refuse go h d)
-  where
-    by : (b : Bool) {x : A} → P x → P (cond b (refuse (t .1)) x)
-    by true k = h (t .1)
-    by false k = k
-
 module _ (E : List ℕ → List ℕ) (U S : Set) where
   model-fair : (c : Call) (s : State) → Fair s (modelCall E U S c s)
   unfolding modelCall
-  model-fair (blockCall m) s = either (Fair s) (refusals (blockCall m) s) (λ q. (refused q, s)) (accepted, blockTaken E U m s) (λ q. stays) takes
-  model-fair (lastCall m k) s = either (Fair s) (refusals (lastCall m k) s) (λ q. (refused q, s)) (tag (tagOf E U S m k s), lastTaken s) (λ q. stays) gives
+  model-fair (blockCall m) s = first-either (Fair s) (refusals (blockCall m) s) (λ q. (refused q, s)) (accepted, blockTaken E U m s) (λ q. stays) (λ c. takes)
+  model-fair (lastCall m k) s = first-either (Fair s) (refusals (lastCall m k) s) (λ q. (refused q, s)) (tag (tagOf E U S m k s), lastTaken s) (λ q. stays) (λ c. gives)
 
   pub model-tags : (cs : List Call) (s : State) → tagsOf (run (modelCall E U S) (acceptedCalls cs (run (modelCall E U S) cs s)) s) ≡ tagsOf (run (modelCall E U S) cs s)
   model-tags cs s = accepted-tags (modelCall E U S) model-fair cs s

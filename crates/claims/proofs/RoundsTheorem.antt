@@ -9,7 +9,7 @@ use Rattle.cipher.specs.KeySize.{rounds}
 use Rattle.cipher.specs.Lea.{keyRows}
 use Rattle.cipher.specs.Coding.{decoded}
 use Rattle.cipher.specs.Chain.{chainSet, Chain}
-use Rattle.cipher.specs.Book.{Book}
+use Rattle.cipher.specs.Book.{bookBody, Book}
 use Rattle.cipher.specs.Answers.{keySize}
 use Rattle.cipher.specs.declared.size.KeySize.{KeySize}
 use Rattle.cipher.proofs.BookMeaning.{book-rounds}
@@ -19,11 +19,11 @@ use Rattle.claims.specs.Demand3.{RoundsOfLea}
 use Rattle.claims.proofs.BuiltLaws.{built-chain, built-book}
 use Rattle.claims.proofs.BookPasses.{book-found}
 
-pub after-rounds : (z : KeySize) (rows : List (List ℕ)) (ch bk : List ℕ) → Chain z ch → Book (rounds z) rows ch bk
+pub after-rounds : (z : KeySize) (rows : List (List ℕ)) (ch bk : List ℕ) → Chain z ch → Book (rounds z) rows ch (bookBody bk)
     → (b : List ℕ) → length b ≡ 16 → (n : ℕ) → 1 ≤ n → n ≤ rounds z → RoundsOfLea rows ch bk n b
 after-rounds z rows ch bk v h b l n p q =
-    let e = rounds-some bk n b z (book-found z rows ch bk v h) l q in
-    (ap (λ (r : ℕ × List ℕ). r .0) e, ap (λ (r : ℕ × List ℕ). decoded (chainSet ch n) (r .1)) e ∙ book-rounds z rows ch bk v h b n q)
+    let e = rounds-some bk n b z (book-found z rows ch bk h) l q in
+    (ap (λ (r : ℕ × List ℕ). r .0) e, ap (λ (r : ℕ × List ℕ). decoded (chainSet ch n) (r .1)) e ∙ book-rounds z rows ch (bookBody bk) v h b n q)
 
 -- for every key, chain and buffer with which a book is built
 pub after-rounds-built : (key ch out held : List ℕ) → Built key ch out held

@@ -8,7 +8,6 @@ use Prim.Native.Nat.{ℕ, _+_, _/_, _≤_}
 use native.Mathlib.Omega.{arith}
 use lib.ListN.{length, drop}
 use Rattle.lists.specs.Blocks.{Bytes, blocks}
-use Rattle.cipher.specs.KeySize.{sizeOfBook}
 use Rattle.cipher.specs.Lea.{keyRows}
 use Rattle.cipher.specs.Lea.{encipher, decipher}
 use Rattle.cipher.specs.Cbc.{cbcEnciphered, cbcDeciphered}
@@ -24,7 +23,7 @@ use Rattle.pad.specs.Answers.{sealingAnswer}
 use Rattle.pad.proofs.PadLaws.{sealing-blocks, sealing-most, sealing-bytes, sealing-padded}
 use Rattle.pad.proofs.TextLaws.{length-coded}
 use Rattle.pad.proofs.AnswerLaws.{sealing-short, sealing-coded}
-use Rattle.driver.specs.Driver.{sealed, sealAnswer}
+use Rattle.driver.specs.Driver.{admitAnswer, sealed, sealAnswer}
 use Rattle.driver.proofs.AnswerLaws.{seal-9, seal-done}
 use Rattle.archive.specs.Archive.{openedText, endsPadded, unpadded, openAnswer}
 use Rattle.archive.proofs.AnswerLaws.{open-9, open-done}
@@ -88,8 +87,8 @@ module _ (key ch out held : List ℕ) (built : Built key ch out held) (hk : Byte
         ∙ ap (λ (k : ℕ). ((0, k), codeOf u m ++ drop k o)) (sym code-length);
   }
 
-  found : sizeOfBook (length book) ≡ Found (keySize key)
-  found = book-found (keySize key) (keyRows (keySize key) key) ch book valid made
+  found : admitAnswer book ≡ (0, Found (keySize key))
+  found = book-found (keySize key) (keyRows (keySize key) key) ch book made
 
   sealing-writes : Writes (sealAnswer book iv (codeOf u m)) (length (fileOf u book iv m)) (fileOf u book iv m)
   sealing-writes = record {

@@ -8,18 +8,18 @@ use native.Mathlib.Decide.{decLt, ℕ-discrete}
 use native.Mathlib.Omega.{arith}
 use lib.ListN.{length}
 use Rattle.lists.specs.Blocks.{xorBlock}
-use Rattle.cipher.specs.KeySize.{rounds, sizeOfBook}
+use Rattle.cipher.specs.KeySize.{rounds}
 use Rattle.cipher.specs.Lea.{keyRows}
 use Rattle.cipher.specs.Lea.{firstRounds, encipher}
 use Rattle.cipher.specs.Coding.{Set, coded, decoded}
 use Rattle.cipher.specs.Chain.{messageSet, chainSet, Chain}
-use Rattle.cipher.specs.Book.{groupKey, Book}
+use Rattle.cipher.specs.Book.{bookBody, groupKey, Book}
 use Rattle.cipher.specs.Answers.{keySize}
 use Rattle.cipher.specs.declared.size.KeySize.{KeySize}
 use Rattle.cipher.specs.declared.size.SizeFound.the-variants.{Found}
 use Rattle.cipher.proofs.CodingLaws.{coded-decoded}
 use Rattle.cipher.proofs.BookMeaning.{book-start}
-use Rattle.driver.specs.Driver.{pass, beginAnswer, blockAnswer, lastAnswer}
+use Rattle.driver.specs.Driver.{admitAnswer, pass, beginAnswer, blockAnswer, lastAnswer}
 use Rattle.driver.specs.declared.session.Session.{Session}
 use Rattle.driver.proofs.PassLaws.{block-pass}
 use Rattle.driver.proofs.AnswerLaws.{begin-done, block-7, block-21, block-22, block-done, last-7, last-10, last-21, last-done}
@@ -36,7 +36,7 @@ unfolding groupKey kindKey
 kind-key E zero = refl
 kind-key E (suc k) = refl
 
-module _ (z : KeySize) (rows : List (List ℕ)) (ch bk : List ℕ) (v : Chain z ch) (h : Book (rounds z) rows ch bk) where
+module _ (z : KeySize) (rows : List (List ℕ)) (ch bk : List ℕ) (v : Chain z ch) (h : Book (rounds z) rows ch (bookBody bk)) where
   abbrev E : List ℕ → List ℕ
   E = firstRounds rows (rounds z)
 
@@ -46,8 +46,8 @@ module _ (z : KeySize) (rows : List (List ℕ)) (ch bk : List ℕ) (v : Chain z 
   abbrev S : Set
   S = chainSet ch (rounds z)
 
-  found : sizeOfBook (length bk) ≡ Found z
-  found = book-found z rows ch bk v h
+  found : admitAnswer bk ≡ (0, Found z)
+  found = book-found z rows ch bk h
 
   -- ---- a session that is to the driver what a state is to the model
   record Same (d : Session) (x : State) : Type 0 where
@@ -58,11 +58,11 @@ module _ (z : KeySize) (rows : List (List ℕ)) (ch bk : List ℕ) (v : Chain z 
   abbrev Like : Answer × Session → Answer × State → Type 0
   Like a c = (a .0 ≡ c .0) × Same (a .1) (c .1)
 
-  tag-same : (m : List ℕ) (k : ℕ) (d : Session) (x : State) → Same d x → k ≤ 1 → pass bk (suc k) (d .block) m ≡ tagOf E U S m k x
+  tag-same : (m : List ℕ) (k : ℕ) (d : Session) (x : State) → Same d x → k ≤ 1 → pass (bookBody bk) (suc k) (d .block) m ≡ tagOf E U S m k x
   unfolding tagOf
   tag-same m k d x s l =
-      sym (coded-decoded S (last-permutes z ch v) (pass bk (suc k) (d .block) m) (block-pass bk (suc k) (d .block) m))
-      ∙ ap (coded S) (pass-decoded z rows ch bk v h (suc k) (omega arith) (d .block) m
+      sym (coded-decoded S (last-permutes z ch v) (pass (bookBody bk) (suc k) (d .block) m) (block-pass (bookBody bk) (suc k) (d .block) m))
+      ∙ ap (coded S) (pass-decoded z rows ch (bookBody bk) v h (suc k) (omega arith) (d .block) m
       ∙ ap₂ (λ (y n : List ℕ). E (xorBlock (xorBlock y (decoded U m)) n)) (s .held) (kind-key E k))
 
   like : {a a' : Answer × Session} {c c' : Answer × State} → a ≡ a' → c ≡ c' → Like a' c' → Like a c
@@ -81,7 +81,7 @@ module _ (z : KeySize) (rows : List (List ℕ)) (ch bk : List ℕ) (v : Chain z 
           like (ap blockReply (block-done bk m d z found a e t)) (model-block E U S m x a (sym (s .ended) ∙ e) (omega (arith, s .taken))) (
             refl,
             unfold blockTaken in record {
-              held = pass-block z rows ch bk v h (d .block) m ∙ ap (λ (y : List ℕ). E (xorBlock y (decoded U m))) (s .held);
+              held = pass-block z rows ch (bookBody bk) v h (d .block) m ∙ ap (λ (y : List ℕ). E (xorBlock y (decoded U m))) (s .held);
               taken = ap suc (s .taken);
               ended = s .ended;
             },
@@ -105,7 +105,7 @@ module _ (z : KeySize) (rows : List (List ℕ)) (ch bk : List ℕ) (v : Chain z 
   step (lastCall m k) d x s = last-step m k d x s
 
   same-begun : Same ((beginAnswer bk) .1) begun
-  same-begun = rw (begin-done bk z found) (record { held = book-start z rows ch bk v h; taken = refl; ended = refl })
+  same-begun = rw (begin-done bk z found) (record { held = book-start z rows ch (bookBody bk) v h; taken = refl; ended = refl })
 
   runs : (cs : List Call) (d : Session) (x : State) → Same d x → run (driverCall bk) cs d ≡ run (modelCall E U S) cs x
   unfolding run

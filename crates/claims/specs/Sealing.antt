@@ -9,6 +9,7 @@ use Rattle.cipher.specs.Lea.{encipher}
 use Rattle.cipher.specs.Cbc.{cbcEnciphered}
 use Rattle.cipher.specs.Coding.{setOf, decoded}
 use Rattle.cipher.specs.Answers.{keySize}
+use Rattle.cipher.specs.Book.{bookBody}
 use Rattle.pad.specs.Padding.{paddedForSealing, codedText}
 use Rattle.pad.specs.Answers.{sealingAnswer}
 use Rattle.driver.specs.Driver.{sealed, sealAnswer}
@@ -19,7 +20,7 @@ abbrev pub codeOf : List ℕ → List ℕ → List ℕ
 codeOf u m = codedText (setOf u) (paddedForSealing m)
 
 abbrev pub fileOf : List ℕ → List ℕ → List ℕ → List ℕ → List ℕ
-fileOf u bk iv m = sealed bk iv (codeOf u m)
+fileOf u bk iv m = sealed (bookBody bk) iv (codeOf u m)
 
 -- a call that writes x into the front of a buffer and tells its length; it gives refusal 9 exactly where the buffer is shorter
 -- than `room`, and no other

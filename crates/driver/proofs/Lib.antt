@@ -1,3 +1,6 @@
 pub mod PassLaws
+pub mod AdmitLaws
 pub mod AnswerLaws
 pub mod SealLaws
+pub mod SessionLaws
+pub mod LentLocal

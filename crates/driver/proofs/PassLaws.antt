@@ -1,4 +1,4 @@
--- A fold and all rounds of a book together.
+-- A fold and all rounds of a book's body together.
 use mathlib.Core.Path.{_≡_, sym, ap, ap₂, _∙_}
 use mathlib.Core.List.{List}
 use Prim.Native.Nat.{ℕ, _+_, _-_, _*_, _/_}
@@ -6,27 +6,22 @@ use native.Mathlib.Omega.{arith}
 use lib.ListN.{length, take, drop}
 use Rattle.lists.specs.Blocks.{Block}
 use Rattle.lists.proofs.PartLaws.{part-end}
-use Rattle.cipher.specs.KeySize.{rounds, bookLength, sizeOfBook}
+use Rattle.cipher.specs.KeySize.{rounds}
 use Rattle.cipher.specs.Tables.{tableRounds, tableFold}
 use Rattle.cipher.specs.Book.{groupAt, roundAt}
 use Rattle.cipher.specs.declared.size.KeySize.{KeySize}
-use Rattle.cipher.specs.declared.size.SizeFound.the-variants.{Found}
 use Rattle.cipher.proofs.CodingLaws.{block-halves}
 use Rattle.cipher.proofs.FoldLaw.{fold-lt}
-use Rattle.cipher.proofs.KeySizeLaws.{found-length}
-use Rattle.table_reader.proofs.RoundLaws.{block-rounds}
-use Rattle.driver.specs.Driver.{roundsOf, pass}
+use Rattle.table_reader.proofs.RoundLaws.{block-table-rounds}
+use Rattle.driver.specs.Driver.{bodyLength, roundsOf, pass}
 
--- the rounds of a book of a known length
-pub rounds-known : (z : KeySize) (bk : List ℕ) → length bk ≡ bookLength z → roundsOf bk ≡ rounds z
+-- the rounds of a body of a known length
+pub rounds-known : (z : KeySize) (bk : List ℕ) → length bk ≡ bodyLength z → roundsOf bk ≡ rounds z
 unfolding roundsOf
 rounds-known z bk e = omega arith
 
-pub rounds-found : (z : KeySize) (bk : List ℕ) → sizeOfBook (length bk) ≡ Found z → roundsOf bk ≡ rounds z
-rounds-found z bk e = rounds-known z bk (found-length bookLength (length bk) z e)
-
 -- a fold by group g and then all rounds
-pub pass-is : (z : KeySize) (bk x m f y : List ℕ) (g r : ℕ) → length bk ≡ bookLength z → r ≡ rounds z
+pub pass-is : (z : KeySize) (bk x m f y : List ℕ) (g r : ℕ) → length bk ≡ bodyLength z → r ≡ rounds z
     → f ≡ tableFold (take (length bk - (16 + 8192 * g)) (drop (16 + 8192 * g) bk)) x m
     → y ≡ tableRounds (roundAt bk) r f → y ≡ pass bk g x m
 unfolding pass
@@ -41,4 +36,4 @@ block-fold t x m = block-halves _ (fold-lt t x m)
 
 pub block-pass : (bk : List ℕ) (g : ℕ) (x m : List ℕ) → Block (pass bk g x m)
 unfolding pass
-block-pass bk g x m = block-rounds (roundAt bk) (roundsOf bk) (tableFold (groupAt bk g) x m) (block-fold (groupAt bk g) x m)
+block-pass bk g x m = block-table-rounds (roundAt bk) (roundsOf bk) (tableFold (groupAt bk g) x m) (block-fold (groupAt bk g) x m)

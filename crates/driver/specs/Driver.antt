@@ -2,18 +2,23 @@
 -- operations answers, from a book (01's term) of any bytes.
 use mathlib.Core.Bool.{Bool, true, false, cond, not, _||_}
 use mathlib.Core.List.{List, [], _∷_, _++_, flatten}
-use Prim.Native.Nat.{ℕ, suc, _-_, _/_}
+use Prim.Native.Nat.{ℕ, suc, _+_, _*_, _-_, _/_}
 use lib.Dec.{eqb, leb, ltb}
 use lib.ListN.{length, drop}
 use Rattle.lists.specs.Blocks.{zeros, blocks}
 use Rattle.lists.specs.Refusals.{first}
 use Rattle.cipher.specs.Tables.{tableRound, tableRounds, tableFold}
-use Rattle.cipher.specs.Book.{startOf, groupAt, roundAt}
+use Rattle.cipher.specs.Book.{bookBody, startOf, groupAt, roundAt}
 use Rattle.cipher.specs.Lengths.{roundsStart, roundLength}
-use Rattle.cipher.specs.KeySize.{bookLength}
-use Rattle.cipher.specs.Refusal.{outcomeOf}
+use Rattle.cipher.specs.KeySize.{rounds, bookLength, sizeOfBook}
+use Rattle.cipher.specs.Refusal.{numberOf, outcomeOf}
 use Rattle.cipher.specs.Answers.{blockTold, blockTests, textTests, roomTests}
+use Rattle.cipher.specs.declared.size.KeySize.{KeySize}
 use Rattle.cipher.specs.declared.size.KeySize.the-variants.{Bytes16, Bytes24, Bytes32}
+use Rattle.cipher.specs.declared.size.SizeFound.{SizeFound}
+use Rattle.cipher.specs.declared.size.SizeFound.the-variants.{Found, Unknown}
+use Rattle.driver.specs.declared.admit.Admitted.{Admitted}
+use Rattle.driver.specs.declared.admit.Admitted.the-variants.{Size, Refused}
 use Rattle.driver.specs.declared.session.Session.{Session}
 use Rattle.driver.specs.declared.session.SessionAnswer.{SessionAnswer}
 use Rattle.driver.specs.declared.session.TagAnswer.{TagAnswer}
@@ -27,7 +32,18 @@ bookTests bk = (not (eqb (length bk) (bookLength Bytes16) || eqb (length bk) (bo
 abbrev pub tablesTests : List ℕ → List (Bool × ℕ)
 tablesTests t = (not (eqb (length t) roundLength), 6) ∷ []
 
--- how many rounds a book has
+-- the size of a book's key, or the number of the refusal; and admitting a book
+abbrev pub admittedTold : Admitted → ℕ × SizeFound
+admittedTold (Size z) = (0, Found z)
+admittedTold (Refused q) = (numberOf q, Unknown)
+
+unfoldable pub admitAnswer : List ℕ → ℕ × SizeFound
+admitAnswer bk = first (bookTests bk) (λ q. (q, Unknown)) (0, sizeOfBook (length bk))
+
+-- the length of a book's body, for the size of its key; and how many rounds a body has
+abbrev pub bodyLength : KeySize → ℕ
+bodyLength z = roundsStart + roundLength * rounds z
+
 unfoldable pub roundsOf : List ℕ → ℕ
 roundsOf bk = (length bk - roundsStart) / roundLength
 
@@ -44,11 +60,12 @@ runRoundsTests bk b = bookTests bk ++ blockTests b
 
 unfoldable pub runRoundsAnswer : List ℕ → ℕ → List ℕ → ℕ × List ℕ
 runRoundsAnswer bk n b =
-    first (runRoundsTests bk b) (λ q. (q, zeros)) (0, tableRounds (roundAt bk) (cond (leb n (roundsOf bk)) n (roundsOf bk)) b)
+    first (runRoundsTests bk b) (λ q. (q, zeros))
+    (0, tableRounds (roundAt (bookBody bk)) (cond (leb n (roundsOf (bookBody bk))) n (roundsOf (bookBody bk))) b)
 
 -- ---- sealing
 
--- a block m folded (01's term) into a block x by group g of a book, and the result taken through all rounds
+-- a block m folded (01's term) into a block x by group g of a book's body bk, and the result taken through all rounds
 unfoldable pub pass : List ℕ → ℕ → List ℕ → List ℕ → List ℕ
 pass bk g x m = tableRounds (roundAt bk) (roundsOf bk) (tableFold (groupAt bk g) x m)
 
@@ -57,7 +74,7 @@ unfoldable pub passedFrom : (List ℕ → List ℕ → List ℕ) → List ℕ �
 passedFrom step x [] = []
 passedFrom step x (m ∷ ms) = step x m ∷ passedFrom step (step x m) ms
 
--- the coded blocks sealed from an IV: every block is folded in by group one
+-- the coded blocks sealed from an IV by a book's body bk: every block is folded in by group one
 abbrev pub sealed : List ℕ → List ℕ → List ℕ → List ℕ
 sealed bk iv coded = flatten (passedFrom (pass bk 0) iv (blocks coded))
 
@@ -67,7 +84,7 @@ sealTests bk iv coded out = bookTests bk ++ (blockTests iv ++ (textTests coded +
 
 unfoldable pub sealAnswer : List ℕ → List ℕ → List ℕ → List ℕ → (ℕ × ℕ) × List ℕ
 sealAnswer bk iv coded out =
-    first (sealTests bk iv coded out) (λ q. ((q, 0), out)) ((0, length coded), sealed bk iv coded ++ drop (length coded) out)
+    first (sealTests bk iv coded out) (λ q. ((q, 0), out)) ((0, length coded), sealed (bookBody bk) iv coded ++ drop (length coded) out)
 
 -- ---- the tag session
 
@@ -94,7 +111,7 @@ tagTold a = (blockTold (a .answer), a .session)
 
 -- beginning in place of a session s, which a refusal leaves: a fresh session that holds the book's start
 unfoldable pub begunOver : List ℕ → Session → ℕ × Session
-begunOver bk s = first (bookTests bk) (λ q. (q, s)) (0, fresh (startOf bk))
+begunOver bk s = first (bookTests bk) (λ q. (q, s)) (0, fresh (startOf (bookBody bk)))
 
 -- beginning where there is none
 unfoldable pub beginAnswer : List ℕ → ℕ × Session
@@ -117,7 +134,7 @@ blockCallTests bk m s = bookTests bk ++ (blockTests m ++ (finishedTests s ++ ful
 
 unfoldable pub blockAnswer : List ℕ → List ℕ → Session → ℕ × Session
 blockAnswer bk m s =
-    first (blockCallTests bk m s) (λ q. (q, s)) (0, moved s (pass bk 0 (s .block) m))
+    first (blockCallTests bk m s) (λ q. (q, s)) (0, moved s (pass (bookBody bk) 0 (s .block) m))
 
 -- a last call: the block is folded in by group two for kind 0 and by group three for kind 1, and the result is the tag
 abbrev pub lastCallTests : List ℕ → List ℕ → ℕ → Session → List (Bool × ℕ)
@@ -126,4 +143,4 @@ lastCallTests bk m k s = bookTests bk ++ (blockTests m ++ (kindTests k ++ finish
 unfoldable pub lastAnswer : List ℕ → List ℕ → ℕ → Session → (ℕ × List ℕ) × Session
 lastAnswer bk m k s =
     first (lastCallTests bk m k s) (λ q. ((q, zeros), s))
-    ((0, pass bk (suc k) (s .block) m), closed s)
+    ((0, pass (bookBody bk) (suc k) (s .block) m), closed s)

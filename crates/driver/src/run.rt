@@ -3,25 +3,17 @@
 ghost use mathlib.Core.Path.{_≡_};
 ghost use Rattle.cipher.specs.Answers.{blockTold};
 ghost use Rattle.driver.specs.Driver.{runRoundAnswer, runRoundsAnswer};
+use crate::admit::Admitted;
+use crate::admit::admit;
+use crate::admit::body;
 use cipher::answer::BlockAnswer;
+use cipher::answer::done;
 use cipher::answer::refused;
 use cipher::block::block_at;
 use cipher::lengths;
-use cipher::refusal::Outcome;
 use cipher::refusal::Refusal;
-use cipher::size::KeySize;
-use cipher::size::SizeFound;
 use table_reader::round::rounds;
 use table_reader::round::step;
-
-fn done(block: [u8; 16]) -> BlockAnswer
-    ensures { λ r. ⌜ blockTold r ≡ (0, block) ⌝ }
-{
-    BlockAnswer {
-        outcome: Outcome::Done,
-        block,
-    }
-}
 
 // A block by the tables of one round.
 pub fn run_round(tables: &[u8], block: &[u8]) -> BlockAnswer
@@ -42,16 +34,18 @@ pub fn run_round(tables: &[u8], block: &[u8]) -> BlockAnswer
 pub fn run_rounds(book: &[u8], n: usize, block: &[u8]) -> BlockAnswer
     ensures { λ r. ⌜ blockTold r ≡ runRoundsAnswer (now (book .entry)) n (now (block .entry)) ⌝ }
 {
-    let SizeFound::Found(size) = KeySize::of_book_len(book.len()) else {
-        return refused(Refusal::BookLength);
+    let size = match admit(book) {
+        Admitted::Refused(why) => return refused(why),
+        Admitted::Size(size) => size,
     };
     if block.len() != lengths::BLOCK {
         return refused(Refusal::BlockLength);
     }
+    let parts = body(book);
     let all = size.rounds();
     let first = block_at(block, 0);
     if n <= all {
-        return done(rounds(book, n, first));
+        return done(rounds(parts, n, first));
     }
-    done(rounds(book, all, first))
+    done(rounds(parts, all, first))
 }

@@ -5,6 +5,9 @@ ghost use Prim.Native.Nat.{_<_};
 ghost use Rattle.cipher.specs.Refusal.{numberOf};
 ghost use Rattle.lists.specs.Blocks.{zeros};
 ghost use Rattle.driver.specs.Driver as D;
+use crate::admit::Admitted;
+use crate::admit::admit;
+use crate::admit::body;
 use crate::pass::pass;
 use cipher::answer::BlockAnswer;
 use cipher::answer::refused;
@@ -12,8 +15,6 @@ use cipher::block::block_at;
 use cipher::lengths;
 use cipher::refusal::Outcome;
 use cipher::refusal::Refusal;
-use cipher::size::KeySize;
-use cipher::size::SizeFound;
 
 // A session: the block so far, how many block calls were taken, and whether the last call was.
 pub struct Session {
@@ -48,10 +49,10 @@ fn kept(s: Session, why: Refusal) -> SessionAnswer
 pub fn begin_over(s: Session, book: &[u8]) -> SessionAnswer
     ensures { λ r. ⌜ D.sessionTold r ≡ D.begunOver (now (book .entry)) s ⌝ }
 {
-    let SizeFound::Found(_) = KeySize::of_book_len(book.len()) else {
-        return kept(s, Refusal::BookLength);
-    };
-    let start = block_at(book, 0);
+    if let Admitted::Refused(why) = admit(book) {
+        return kept(s, why);
+    }
+    let start = block_at(body(book), 0);
     SessionAnswer {
         outcome: Outcome::Done,
         session: Session {
@@ -62,25 +63,31 @@ pub fn begin_over(s: Session, book: &[u8]) -> SessionAnswer
     }
 }
 
-// A fresh session on a book. Where the book is refused there is none, and what is handed back is a
-// finished one, which takes no call.
-pub fn begin(book: &[u8]) -> SessionAnswer
-    ensures { λ r. ⌜ D.sessionTold r ≡ D.beginAnswer (now (book .entry)) ⌝ }
+// A finished session of zeros, which takes no call: it stands where there is none.
+pub fn spent() -> Session
+    ensures { λ r. ⌜ r ≡ D.spent ⌝ }
 {
-    let none = Session {
+    Session {
         block: [0u8; 16],
         taken: 0,
         finished: true,
-    };
-    begin_over(none, book)
+    }
+}
+
+// A fresh session on a book. Where the book is refused there is none, and a spent one is handed back.
+pub fn begin(book: &[u8]) -> SessionAnswer
+    ensures { λ r. ⌜ D.sessionTold r ≡ D.beginAnswer (now (book .entry)) ⌝ }
+{
+    begin_over(spent(), book)
 }
 
 // A block call.
 pub fn block_call(s: Session, book: &[u8], block: &[u8]) -> SessionAnswer
     ensures { λ r. ⌜ D.sessionTold r ≡ D.blockAnswer (now (book .entry)) (now (block .entry)) s ⌝ }
 {
-    let SizeFound::Found(size) = KeySize::of_book_len(book.len()) else {
-        return kept(s, Refusal::BookLength);
+    let size = match admit(book) {
+        Admitted::Refused(why) => return kept(s, why),
+        Admitted::Size(size) => size,
     };
     if block.len() != lengths::BLOCK {
         return kept(s, Refusal::BlockLength);
@@ -92,7 +99,7 @@ pub fn block_call(s: Session, book: &[u8], block: &[u8]) -> SessionAnswer
         return kept(s, Refusal::SessionFull);
     }
     let held = s.block;
-    let next = pass(size, book, 0, held, block_at(block, 0));
+    let next = pass(size, body(book), 0, held, block_at(block, 0));
     SessionAnswer {
         outcome: Outcome::Done,
         session: Session {
@@ -117,8 +124,9 @@ fn no_tag(s: Session, why: Refusal) -> TagAnswer
 pub fn last_call(s: Session, book: &[u8], block: &[u8], kind: u8) -> TagAnswer
     ensures { λ r. ⌜ D.tagTold r ≡ D.lastAnswer (now (book .entry)) (now (block .entry)) kind s ⌝ }
 {
-    let SizeFound::Found(size) = KeySize::of_book_len(book.len()) else {
-        return no_tag(s, Refusal::BookLength);
+    let size = match admit(book) {
+        Admitted::Refused(why) => return no_tag(s, why),
+        Admitted::Size(size) => size,
     };
     if block.len() != lengths::BLOCK {
         return no_tag(s, Refusal::BlockLength);
@@ -131,7 +139,7 @@ pub fn last_call(s: Session, book: &[u8], block: &[u8], kind: u8) -> TagAnswer
     }
     let group = kind as usize + 1;
     let held = s.block;
-    let tag = pass(size, book, group, held, block_at(block, 0));
+    let tag = pass(size, body(book), group, held, block_at(block, 0));
     TagAnswer {
         answer: BlockAnswer {
             outcome: Outcome::Done,

@@ -22,7 +22,7 @@ use Rattle.book.specs.Answers as book
 use Rattle.book.proofs.AnswerLaws.{built-done}
 use Rattle.book.proofs.BuildLaws.{sets-permute}
 use Rattle.driver.specs.Driver as driver
-use Rattle.driver.proofs.AnswerLaws.{round-done}
+use Rattle.driver.proofs.AnswerLaws.{tables-done}
 use Rattle.round.specs.Round.{Ready, tablesOf, laterRounds}
 
 -- ---- the tables of a round, built and run
@@ -44,7 +44,7 @@ module _ (z : KeySize) (key ch : List ℕ) (h : Ready z key ch) (l : ℕ) (b : l
       → (n, u) ≡ book.buildRoundAnswer key ch l t → (m, y) ≡ driver.runRoundAnswer u x → y ≡ tableRound (tablesOf z key ch l) x
   round-run n m t u x y e f p q =
       let d = tables-built n t u e p in
-      ap (λ (p : ℕ × List ℕ). p .1) (q ∙ round-done u x (ap length d ∙ tables-size) f) ∙ ap (λ (t : List ℕ). tableRound t x) d
+      ap (λ (p : ℕ × List ℕ). p .1) (q ∙ tables-done u x (ap length d ∙ tables-size) f) ∙ ap (λ (t : List ℕ). tableRound t x) d
 
 -- ---- rounds one after another
 

@@ -128,7 +128,7 @@ module _ (key ch bk held : List ℕ) (built : Built key ch bk held) (hk : Bytes 
         go (yes d) = files most d w ∙ sym (block-taken iv (roomTests size se) (λ q. w ((q, 0), (se, out))) (opened (overFile book w)) d)
         go (no d) =
             ap (λ (a : (ℕ × ℕ) × List ℕ). w (written a out (λ f. openAnswer key s iv f out)))
-            (seal-7 book iv code se (keySize key) (book-found (keySize key) (keyRows (keySize key) key) ch book valid (built-book key ch bk held built)) d)
+            (seal-7 book iv code se (keySize key) (book-found (keySize key) (keyRows (keySize key) key) ch book (built-book key ch bk held built)) d)
             ∙ sym (block-refused iv (roomTests size se) (λ q. w ((q, 0), (se, out))) (opened (overFile book w)) d)
 
     codes : (w : (ℕ × ℕ) × (List ℕ × (List ℕ × List ℕ)) → B)

@@ -10,15 +10,15 @@ use Rattle.cipher.specs.Coding.{blockHalf}
 
 -- ---- half bytes
 
-pub half-even : (s : List ℕ) (i j : ℕ) → j % 2 ≡ 0 → blockHalf s i (j % 8) ≡ getD s (4 * i + j % 8 / 2) 0 % 16
+pub low-half : (s : List ℕ) (i j : ℕ) → j % 2 ≡ 0 → blockHalf s i (j % 8) ≡ getD s (4 * i + j % 8 / 2) 0 % 16
 unfolding blockHalf halfByte
-half-even s i j h =
+low-half s i j h =
     let e : j % 8 % 2 ≡ 0 = omega arith in
     rw e
 
-pub half-odd : (s : List ℕ) (i j : ℕ) → (j % 2 ≡ 0 → ⊥) → blockHalf s i (j % 8) ≡ getD s (4 * i + j % 8 / 2) 0 / 16 % 16
+pub high-half : (s : List ℕ) (i j : ℕ) → (j % 2 ≡ 0 → ⊥) → blockHalf s i (j % 8) ≡ getD s (4 * i + j % 8 / 2) 0 / 16 % 16
 unfolding blockHalf halfByte
-half-odd s i j h =
+high-half s i j h =
     let e : j % 8 % 2 ≡ 1 = omega (arith, h) in
     rw e
 
@@ -45,9 +45,9 @@ unfoldable pub three : List ℕ → ℕ → ℕ → ℕ → ℕ → List ℕ
 three s m u v w = set (set (set s m u) (m + 4) v) (m + 8) w
 
 module _ (s : List ℕ) (m u v w : ℕ) where
-  pub three-length : length (three s m u v w) ≡ length s
+  pub length-three : length (three s m u v w) ≡ length s
   unfolding three
-  three-length = simp length-set
+  length-three = simp length-set
 
   pub three-far : (k : ℕ) → (k ≡ m → ⊥) → (k ≡ m + 4 → ⊥) → (k ≡ m + 8 → ⊥) → getD (three s m u v w) k 0 ≡ getD s k 0
   unfolding three

@@ -1,4 +1,4 @@
--- A block taken through rounds of a book, round by round.
+-- A block taken through rounds of a book's body, round by round.
 use mathlib.Core.Path.{_≡_, sym, ap, ap₂, _∙_}
 use mathlib.Core.List.{List}
 use Prim.Native.Nat.{ℕ, zero, suc, _+_, _-_, _*_}
@@ -22,10 +22,10 @@ rounds-turn bk x y z l ey ez =
     ∙ ap (λ (k : ℕ). tableRounds (roundAt bk) k x) (sym (add-one l))
 
 -- what rounds give is a block
-pub block-rounds : (t : ℕ → List ℕ) (n : ℕ) (b : List ℕ) → Block b → Block (tableRounds t n b)
+pub block-table-rounds : (t : ℕ → List ℕ) (n : ℕ) (b : List ℕ) → Block b → Block (tableRounds t n b)
 unfolding tableRounds tableRound
-block-rounds t zero b h = h
-block-rounds t (suc n) b h = block-halves _ (after-lt (t n) (tableRounds t n b))
+block-table-rounds t zero b h = h
+block-table-rounds t (suc n) b h = block-halves _ (after-lt (t n) (tableRounds t n b))
 
 pub rounds-block : (bk x y : List ℕ) (l : ℕ) → Block x → y ≡ tableRounds (roundAt bk) l x → Block y
-rounds-block bk x y l h e = rw e (block-rounds (roundAt bk) l x h)
+rounds-block bk x y l h e = rw e (block-table-rounds (roundAt bk) l x h)

@@ -12,7 +12,7 @@ use Rattle.lists.proofs.TabulationLaws.{tab-is, getD-tab}
 use Rattle.cipher.specs.Coding.{blockHalf}
 use Rattle.cipher.specs.Tables.{addAt, carryAt, sumAt}
 use Rattle.table_reader.specs.Reading.{lowEntry, highEntry, TwoIs, sumByte, sumBytes}
-use Rattle.table_reader.proofs.ReadingLaws.{half-lo, half-hi, three, three-length, three-far, three-0, three-1, three-2}
+use Rattle.table_reader.proofs.ReadingLaws.{half-lo, half-hi, three, length-three, three-far, three-0, three-1, three-2}
 
 carry-lt : (t b : List ℕ) (i j : ℕ) → carryAt t b i j < 2
 unfolding carryAt
@@ -58,7 +58,7 @@ pub record SumsAre (t b : List ℕ) (m : ℕ) (s : List ℕ) : Type 0 where
 sums-step : (t b s : List ℕ) (m u v w : ℕ) → m < 4 → SumsAre t b m s
     → u ≡ sumByte t b 0 m → v ≡ sumByte t b 1 m → w ≡ sumByte t b 2 m → SumsAre t b (m + 1) (three s m u v w)
 sums-step t b s m u v w hm z eu ev ew = record {
-  len = three-length s m u v w ∙ z .len;
+  len = length-three s m u v w ∙ z .len;
   at0 = below-more (λ k. getD (three s m u v w) k 0 ≡ sumByte t b 0 k) m
       (λ k h. three-far s m u v w k (λ e. omega arith) (λ e. omega arith) (λ e. omega arith) ∙ z .at0 k h)
       (three-0 s m u v w (omega (arith, z .len)) ∙ eu);
@@ -133,9 +133,9 @@ unfolding sumAt
 sum-lt t b i j = omega arith
 
 -- the half bytes of the sums' bytes are the sums
-pub half-sum : (t b : List ℕ) (i j : ℕ) → i < 3 → j < 8 → blockHalf (sumBytes t b) i j ≡ sumAt t b i j
+pub sum-half : (t b : List ℕ) (i j : ℕ) → i < 3 → j < 8 → blockHalf (sumBytes t b) i j ≡ sumAt t b i j
 unfolding sumByte sumBytes
-half-sum t b i j hi hj = go (j % 2) refl
+sum-half t b i j hi hj = go (j % 2) refl
   where
     at : (m : ℕ) → m < 4 → getD (sumBytes t b) (4 * i + m) 0 ≡ sumAt t b i (2 * m) + 16 * sumAt t b i (2 * m + 1)
     at m h =

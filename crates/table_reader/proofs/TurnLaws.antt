@@ -14,8 +14,8 @@ use Rattle.lists.proofs.TabulationLaws.{tab-is}
 use Rattle.cipher.specs.Coding.{blockHalf, ofHalves}
 use Rattle.cipher.specs.Tables.{upper, lower, newAt, halfAfter, tableRound}
 use Rattle.table_reader.specs.Reading.{sumBytes, turnHalf, turnByte}
-use Rattle.table_reader.proofs.ReadingLaws.{half-lo, half-hi, set-far, three, three-length, three-far, three-0, three-1, three-2, four}
-use Rattle.table_reader.proofs.SumLaws.{half-sum}
+use Rattle.table_reader.proofs.ReadingLaws.{half-lo, half-hi, set-far, three, length-three, three-far, three-0, three-1, three-2, four}
+use Rattle.table_reader.proofs.SumLaws.{sum-half}
 
 -- the first m bytes of each new word are made from the sums s and the block x; of word 0 the others still are those of x
 pub record TurnsAre (t s x : List ℕ) (m : ℕ) (y : List ℕ) : Type 0 where
@@ -41,7 +41,7 @@ pub turns-step : (t s x y : List ℕ) (m u v w : ℕ) → m < 4 → TurnsAre t s
     → TurnsAre t s x (m + 1) (four y m u v w (getD y m 0))
 unfolding four
 turns-step t s x y m u v w hm r eu ev ew = record {
-  len = three-length z m u v w ∙ zl;
+  len = length-three z m u v w ∙ zl;
   at0 = below-more (λ k. getD (three z m u v w) k 0 ≡ turnByte t s 0 k 6 5) m
       (λ k h. far k (λ e. omega arith) (λ e. omega arith) (λ e. omega arith) (λ e. omega arith) ∙ r .at0 k h)
       (three-0 z m u v w (omega (arith, zl)) ∙ eu);
@@ -75,7 +75,7 @@ turn-at : (t b : List ℕ) (i j u v : ℕ) → i < 3 → j < 8 → upper i j ≡
     → turnHalf t (sumBytes t b) i j u v ≡ newAt t b i j
 unfolding turnHalf newAt
 turn-at t b i j u v hi hj e f =
-    rw (e, f, half-sum t b i ((j + u) % 8) hi (omega arith), half-sum t b i ((j + v) % 8) hi (omega arith))
+    rw (e, f, sum-half t b i ((j + u) % 8) hi (omega arith), sum-half t b i ((j + v) % 8) hi (omega arith))
 
 -- a byte is its two halves
 halves : (b : List ℕ) → Bytes b → (k : ℕ) → getD b k 0 ≡ blockHalf b 0 (2 * k) + 16 * blockHalf b 0 (2 * k + 1)

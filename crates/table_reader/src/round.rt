@@ -1,4 +1,4 @@
-// The rounds of a book on a block.
+// The rounds of a book's body on a block.
 ghost use mathlib.Core.Path.{_≡_};
 ghost use Prim.Native.Nat.{_+_, _*_, _≤_};
 ghost use lib.ListN.{length};
@@ -19,15 +19,15 @@ pub fn step(t: &[u8], y: &mut [u8; 16])
     turns(t, &s, y);
 }
 
-// The rounds 0 to n - 1 of a book.
-pub fn rounds(book: &[u8], n: usize, x: [u8; 16]) -> [u8; 16]
-    requires { ⌜ (n ≤ 32) × (roundsStart + roundLength * n ≤ length (now book)) ⌝ }
-    ensures { λ r. ⌜ r ≡ tableRounds (roundAt (now (book .entry))) n x ⌝ }
+// The rounds 0 to n - 1 of a book's body.
+pub fn rounds(body: &[u8], n: usize, x: [u8; 16]) -> [u8; 16]
+    requires { ⌜ (n ≤ 32) × (roundsStart + roundLength * n ≤ length (now body)) ⌝ }
+    ensures { λ r. ⌜ r ≡ tableRounds (roundAt (now (body .entry))) n x ⌝ }
 {
     let mut y = x;
     for l in 0..n {
         let at = lengths::ROUNDS + lengths::ROUND_TABLES * l;
-        step(&book[at..], &mut y);
+        step(&body[at..], &mut y);
     }
     y
 }

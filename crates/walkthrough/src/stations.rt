@@ -11,11 +11,12 @@ use book::build::build;
 use cipher::lengths;
 use cipher::refusal::Outcome;
 use cipher::refusal::Written;
+use driver::lending::begin;
+use driver::lending::block_call;
+use driver::lending::last_call;
 use driver::seal::seal;
 use driver::session::Session;
-use driver::session::begin;
-use driver::session::block_call;
-use driver::session::last_call;
+use driver::session::spent;
 use pad::code::TagCode;
 use pad::code::code_for_sealing;
 use pad::code::code_for_tag;
@@ -70,6 +71,12 @@ fn seal_file(book: &[u8], iv: &[u8], coded: &[u8], sealed: &mut [u8]) {
     show(b"   out  sealed file      ", sealed);
 }
 
+// A fresh session on a book.
+fn fresh(book: &[u8]) -> Session {
+    let begun = begin(spent(), book);
+    begun.session
+}
+
 // The session after the block calls for all blocks of a coded file but the last.
 fn block_calls(start: Session, book: &[u8], coded: &[u8]) -> Session {
     let mut s = start;
@@ -84,10 +91,9 @@ fn block_calls(start: Session, book: &[u8], coded: &[u8]) -> Session {
     s
 }
 
-// The driver: makes the tag of a coded file.
+// The driver: makes the tag of a coded file, on a session that is lent to each call.
 fn make_tag(book: &[u8], coded: &[u8], kind: u8) -> [u8; 16] {
-    let begun = begin(book);
-    let s = block_calls(begun.session, book, coded);
+    let s = block_calls(fresh(book), book, coded);
     let n = coded.len();
     if n < 16 {
         return [0u8; 16];

@@ -10,7 +10,10 @@ returns : tie.Need-returns
 returns c = kept-taken _ _ _ _ (c .before .before .before .before .before .code-for-tag .ensures) _ (ap tagCodeTold (c .before .code .given .1))
 
 returns-2 : tie.Need-returns-2
-returns-2 c = kept-refused _ _ _ _ (c .before .before .before .before .before .before .code-for-tag .ensures) _ (c .before .before .code2 .given .0 .0) _ (ap tagCodeTold (c .before .before .code2 .given .1)) (c .number .ensures)
+returns-2 c =
+    let why = c .before .before in
+    kept-refused _ _ _ _ (why .before .before .before .before .code-for-tag .ensures) _ (why .code2 .given .0 .0) _ (ap tagCodeTold (why .code2 .given .1)) (c .number .ensures)
 
 pub bowlinette-code-for-tag-spec : {M : Type 1} → statement M
-bowlinette-code-for-tag-spec = tie.close (tie.spec (λ c κs. search needs) (λ c. search needs) (λ c. search needs) (λ c κs. search needs) (λ c. search needs) returns (λ c. search needs) returns-2)
+bowlinette-code-for-tag-spec = tie.close (tie.spec (λ c κs. search needs) (λ c. search needs) (λ c. search needs) (λ c κs. search needs)
+    (λ c. search needs) returns (λ c. search needs) returns-2)

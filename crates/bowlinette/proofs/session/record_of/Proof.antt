@@ -14,4 +14,5 @@ returns c =
     c .before .put-block .ensures ∙ (λ i. s .block ++ (s .taken % 256 ∷ s .taken / 256 ∷ c .before .before .before .before .flag .ensures i ∷ []))
 
 pub record-of-spec : {M : Type 1} → statement M
-record-of-spec = tie.close (tie.spec (λ c. search needs) (λ c. search needs) (λ c. search needs) (λ c. search needs) (λ c κs. search needs) (λ c. search needs) (λ c. search needs) (λ c κs. search needs) returns)
+record-of-spec = tie.close (tie.spec (λ c. search needs) (λ c. search needs) (λ c. search needs) (λ c. search needs) (λ c κs. search needs)
+    (λ c. search needs) (λ c. search needs) (λ c κs. search needs) returns)

@@ -12,4 +12,5 @@ unfolding sessionIn
 returns c = λ i. record { block = c .before .block-at .ensures i; taken = c .count .ensures i; finished = not (eqb (getD (c .before .before .before .args .t1) 18 0) 0) }
 
 pub session-in-spec : {M : Type 1} → statement M
-session-in-spec = tie.close (tie.spec (λ c. search needs) (λ c κs. search needs) (λ c. search needs) (λ c. search needs) (λ c κs. search needs) (λ c. search needs) returns)
+session-in-spec = tie.close (tie.spec (λ c. search needs) (λ c κs. search needs) (λ c. search needs) (λ c. search needs) (λ c κs. search needs)
+    (λ c. search needs) returns)

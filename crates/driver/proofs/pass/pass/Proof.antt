@@ -17,4 +17,5 @@ returns c =
     pass-is (s .args .size) _ _ _ _ _ _ _ (s .pre .1) (c .before .rounds .ensures) (c .before .before .fold .ensures) (c .rounds2 .ensures)
 
 pub pass-spec : {M : Type 1} → statement M
-pass-spec = tie.close (tie.spec (λ c. search needs) (λ c. search needs) (λ c. search needs) (λ c. search needs) (λ c. search needs) (λ c κs. search needs) (λ c κs. search needs) rounds-requires-2 returns)
+pass-spec = tie.close (tie.spec (λ c. search needs) (λ c. search needs) (λ c. search needs) (λ c. search needs) (λ c. search needs)
+    (λ c κs. search needs) (λ c κs. search needs) rounds-requires-2 returns)

@@ -12,10 +12,11 @@ use Rattle.driver.proofs.seal.seal_blocks.Statement.{statement}
 use Rattle.driver.proofs.seal.seal_blocks.Tie as tie
 
 abbrev Inv-loop : tie.InvT-loop
-Inv-loop size book coded n out₀ x₀ k₀ out x k = (k ≤ n) × (x ≡ passedLast (pass book 0) x₀ (cut k coded)) × (out ≡ done book x₀ coded out₀ k ++ drop (16 * k) out₀) × (length out ≡ length out₀)
+Inv-loop size body coded n out₀ x₀ k₀ out x k =
+    (k ≤ n) × (x ≡ passedLast (pass body 0) x₀ (cut k coded)) × (out ≡ done body x₀ coded out₀ k ++ drop (16 * k) out₀) × (length out ≡ length out₀)
 
 abbrev μ-loop : tie.MeasureT-loop
-μ-loop size book coded n out₀ x₀ k₀ out x k = n - k
+μ-loop size body coded n out₀ x₀ k₀ out x k = n - k
 
 loop-holds : tie.Need-loop-holds Inv-loop μ-loop
 unfolding cut passedLast passedFrom flatten
@@ -30,8 +31,8 @@ loop-again c =
     let y = c .before .before .before .before .pass .ensures in
     let p = c .before .before .put-block in (
       omega arith,
-      seal-end (a .book .now) (a .iv) (a .coded .now) (a .out .now) (l .k) (l .x) _ _ (l .out) (l .inv .1) m y (l .inv .2),
-      p .ensures ∙ seal-turn (a .book .now) (a .iv) (a .coded .now) (a .out .now) (l .k) (l .x) _ _ (l .out) (l .inv .1) m y (l .inv .2),
+      seal-end (a .body .now) (a .iv) (a .coded .now) (a .out .now) (l .k) (l .x) _ _ (l .out) (l .inv .1) m y (l .inv .2),
+      p .ensures ∙ seal-turn (a .body .now) (a .iv) (a .coded .now) (a .out .now) (l .k) (l .x) _ _ (l .out) (l .inv .1) m y (l .inv .2),
       p .kept .0 ∙ l .inv .3,
     )
 
@@ -40,7 +41,8 @@ returns c =
     let h = c .before in
     let a = h .before .before .before .before .args in
     let e : h .loop .k ≡ a .n = omega arith in
-    h .loop .inv .2 ∙ ap (λ (k : ℕ). done (a .book .now) (a .iv) (a .coded .now) (a .out .now) k ++ drop (16 * k) (a .out .now)) e
+    h .loop .inv .2 ∙ ap (λ (k : ℕ). done (a .body .now) (a .iv) (a .coded .now) (a .out .now) k ++ drop (16 * k) (a .out .now)) e
 
 pub seal-blocks-spec : {M : Type 1} → statement M
-seal-blocks-spec = tie.close (tie.spec Inv-loop μ-loop loop-holds (λ c. search needs) (λ c κs. search needs) (λ c κs. search needs) (λ c κs. search needs) (λ c. search needs) (λ c. search needs) loop-again (λ c. search needs) returns)
+seal-blocks-spec = tie.close (tie.spec Inv-loop μ-loop loop-holds (λ c. search needs) (λ c κs. search needs) (λ c κs. search needs)
+    (λ c κs. search needs) (λ c. search needs) (λ c. search needs) loop-again (λ c. search needs) returns)

@@ -11,10 +11,10 @@ use Rattle.table_reader.proofs.round.rounds.Statement.{statement}
 use Rattle.table_reader.proofs.round.rounds.Tie as tie
 
 abbrev Inv-loop : tie.InvT-loop
-Inv-loop book n y₀ l₀ y l = (l ≤ n) × (y ≡ tableRounds (roundAt book) l y₀)
+Inv-loop body n y₀ l₀ y l = (l ≤ n) × (y ≡ tableRounds (roundAt body) l y₀)
 
 abbrev μ-loop : tie.MeasureT-loop
-μ-loop book n y₀ l₀ y l = n - l
+μ-loop body n y₀ l₀ y l = n - l
 
 loop-holds : tie.Need-loop-holds Inv-loop μ-loop
 unfolding tableRounds
@@ -34,7 +34,8 @@ returns : tie.Need-returns Inv-loop μ-loop
 returns c =
     let h = c .before in
     let e : h .loop .l ≡ h .before .before .args .n = omega arith in
-    h .loop .inv .1 ∙ ap (λ (k : ℕ). tableRounds (roundAt (h .before .before .args .book .now)) k (h .before .before .args .x)) e
+    h .loop .inv .1 ∙ ap (λ (k : ℕ). tableRounds (roundAt (h .before .before .args .body .now)) k (h .before .before .args .x)) e
 
 pub rounds-spec : {M : Type 1} → statement M
-rounds-spec = tie.close (tie.spec Inv-loop μ-loop loop-holds (λ c. search needs) (λ c. search needs) (λ c. search needs) (λ c. search needs) (λ c. search needs) step-requires (λ c. search needs) (λ c. search needs) loop-again returns)
+rounds-spec = tie.close (tie.spec Inv-loop μ-loop loop-holds (λ c. search needs) (λ c. search needs) (λ c. search needs) (λ c. search needs)
+    (λ c. search needs) step-requires (λ c. search needs) (λ c. search needs) loop-again returns)
