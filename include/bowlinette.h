@@ -1,14 +1,16 @@
 /*
- * Bowlinette: the cipher LEA, table books of it, and what is done with them, for C programs. Link
- * libbowlinette.a.
+ * Bowlinette: the cipher LEA, table books of it, and what is done with them, for C and C++ programs.
+ * Link libbowlinette.a, which is built for x86-64 Linux. docs/FORMAT.md has the layout of chains, books
+ * and sessions, docs/SECURITY.md what a caller must see to.
  *
- * Every function returns 0, or the number of a refusal. Where several refusals apply, the lowest
- * number is returned. After a refusal nothing behind any pointer has changed; after a success only
- * what the function's pointers that are not to const refer to has.
+ * Every function but bowlinette_is_valid returns 0, or the number of a refusal. Where several refusals
+ * apply, the lowest number is returned. After a refusal nothing behind any pointer has changed; after a
+ * success only what the function's pointers that are not to const refer to has.
  *
  * All lengths count bytes. No pointer may be null, also where its length is 0, and what is written
- * must not overlap what is read. The functions keep nothing between calls and use no heap, so they
- * may run at the same time in several threads.
+ * must not overlap what is read. The functions keep nothing between calls and use no heap, so several
+ * threads may call them at the same time, as long as no thread's session or output buffer is used by
+ * another meanwhile; what is only read (a book, a key) may be shared.
  */
 #ifndef BOWLINETTE_H
 #define BOWLINETTE_H
@@ -19,6 +21,11 @@
 #ifdef __cplusplus
 extern "C" {
 #endif
+
+/* The version of this interface. */
+#define BOWLINETTE_VERSION_MAJOR 1
+#define BOWLINETTE_VERSION_MINOR 0
+#define BOWLINETTE_VERSION "1.0"
 
 /* What is returned. */
 #define BOWLINETTE_DONE 0
@@ -80,6 +87,65 @@ extern "C" {
 #define BOWLINETTE_ROUNDS_256 32
 #define BOWLINETTE_CHAIN_LENGTH_256 30464
 #define BOWLINETTE_BOOK_LENGTH_256 614416
+
+/*
+ * Where the parts of a chain of r rounds begin: the message set U, set l (l from 0 to r), and what it has
+ * for round l (l from 0 to r - 1), 24 middle codings and then 24 masks. The pad is given U, the archive
+ * set r.
+ */
+#define BOWLINETTE_CHAIN_MESSAGE_SET 0
+#define BOWLINETTE_CHAIN_SET(l) (512 + 512 * (size_t)(l))
+#define BOWLINETTE_CHAIN_LAST_SET_128 12800
+#define BOWLINETTE_CHAIN_LAST_SET_192 14848
+#define BOWLINETTE_CHAIN_LAST_SET_256 16896
+#define BOWLINETTE_CHAIN_ROUND(r, l) (1024 + 512 * (size_t)(r) + 408 * (size_t)(l))
+#define BOWLINETTE_ROUND_MASKS 384
+
+/*
+ * Where the parts of a book begin: its start, group g of fold tables (g from 0 to 2), the tables of round
+ * l. In a round come 24 add tables of 512 bytes, then 24 turn tables of 256.
+ */
+#define BOWLINETTE_BOOK_START 0
+#define BOWLINETTE_BOOK_GROUP(g) (16 + 8192 * (size_t)(g))
+#define BOWLINETTE_BOOK_ROUND(l) (24592 + 18432 * (size_t)(l))
+#define BOWLINETTE_ROUND_TURNS 12288
+
+/* What a returned number means, as a sentence. */
+static inline const char *bowlinette_text(uint32_t refusal)
+{
+    switch (refusal) {
+    case BOWLINETTE_DONE:
+        return "Done.";
+    case BOWLINETTE_REFUSED_KEY_LENGTH:
+        return "The key is not of 16, 24 or 32 bytes.";
+    case BOWLINETTE_REFUSED_CHAIN_LENGTH:
+        return "The chain has not the length that goes with the key, or the set is not of 512 bytes.";
+    case BOWLINETTE_REFUSED_NO_PERMUTATION:
+        return "A coding is no permutation of 0 to 15.";
+    case BOWLINETTE_REFUSED_WORD_RULE:
+        return "Word 3 of a set of the chain is not coded as word 0 of the set before it.";
+    case BOWLINETTE_REFUSED_MASK:
+        return "A mask of the chain is over 1, or not 0 for half byte 0.";
+    case BOWLINETTE_REFUSED_BOOK_LENGTH:
+        return "The book, or the tables of a round, have a length that none has.";
+    case BOWLINETTE_REFUSED_BLOCK_LENGTH:
+        return "The block, IV or tag is not of 16 bytes.";
+    case BOWLINETTE_REFUSED_MESSAGE_LENGTH:
+        return "The message is too long, or coded or sealed bytes are none, too many or no whole blocks.";
+    case BOWLINETTE_REFUSED_ROOM:
+        return "The output buffer is too short.";
+    case BOWLINETTE_REFUSED_KIND:
+        return "The kind is neither 0 nor 1.";
+    case BOWLINETTE_REFUSED_PADDING:
+        return "What was opened does not end in padding.";
+    case BOWLINETTE_REFUSED_FINISHED:
+        return "The session is finished.";
+    case BOWLINETTE_REFUSED_LIMIT:
+        return "The session has taken 65,535 block calls.";
+    default:
+        return "This number is not known.";
+    }
+}
 
 /*
  * Enciphers one block and writes the 16 bytes of the ciphertext to out.
@@ -266,12 +332,23 @@ uint32_t bowlinette_open(const uint8_t *key, size_t key_length,
  * answer, valid or invalid, goes to valid.
  * Refuses 1 (key length), 2 (length of the set), 3 (its permutations), 7 (tag length), then 8 (message
  * too long).
+ * TAKE CARE: 0 is returned for an invalid tag too, and a refusal leaves valid as it was. A program that
+ * lets something go by a tag asks bowlinette_is_valid instead.
  */
 uint32_t bowlinette_check(const uint8_t *key, size_t key_length,
                           const uint8_t *set, size_t set_length,
                           const uint8_t *message, size_t message_length,
                           const uint8_t *tag, size_t tag_length,
                           uint8_t *valid);
+
+/*
+ * The same in one word: 1 only if the tag is valid, 0 if it is invalid and where bowlinette_check would
+ * refuse.
+ */
+uint32_t bowlinette_is_valid(const uint8_t *key, size_t key_length,
+                             const uint8_t *set, size_t set_length,
+                             const uint8_t *message, size_t message_length,
+                             const uint8_t *tag, size_t tag_length);
 
 #ifdef __cplusplus
 }

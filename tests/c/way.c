@@ -146,9 +146,37 @@ static void archive(const struct size *s, size_t n)
     CHECK(sealed_length == n && memcmp(room.bytes, message, n) == 0 && untouched(n));
     CHECK(bowlinette_check(key, s->key, set, SET, message, n, tag, BLOCK, &verdict) == BOWLINETTE_DONE);
     CHECK(verdict == BOWLINETTE_VALID);
+    CHECK(bowlinette_is_valid(key, s->key, set, SET, message, n, tag, BLOCK) == 1);
     tag[n % BLOCK] ^= 0x10;
     CHECK(bowlinette_check(key, s->key, set, SET, message, n, tag, BLOCK, &verdict) == BOWLINETTE_DONE);
     CHECK(verdict == BOWLINETTE_INVALID);
+    CHECK(bowlinette_is_valid(key, s->key, set, SET, message, n, tag, BLOCK) == 0);
+}
+
+/* The offsets of the header lead to the ends of a chain and a book, and to the last set. */
+static void offsets(const struct size *s)
+{
+    const size_t r = s->rounds;
+
+    CHECK(BOWLINETTE_CHAIN_SET(r) + SET == BOWLINETTE_CHAIN_ROUND(r, 0));
+    CHECK(BOWLINETTE_CHAIN_ROUND(r, r) == s->chain);
+    CHECK(BOWLINETTE_BOOK_GROUP(3) == BOWLINETTE_BOOK_ROUND(0));
+    CHECK(BOWLINETTE_BOOK_ROUND(r) == s->book);
+}
+
+/* Every number has a sentence of its own, and a number that is none says so. */
+static void texts(void)
+{
+    static const uint32_t numbers[] = {0, 1, 2, 3, 4, 5, 6, 7, 8, 9, 10, 11, 21, 22, 99};
+    size_t i, k;
+
+    for (i = 0; i < sizeof numbers / sizeof numbers[0]; i++)
+        for (k = 0; k < i; k++)
+            CHECK(strcmp(bowlinette_text(numbers[i]), bowlinette_text(numbers[k])) != 0);
+    CHECK(strcmp(bowlinette_text(12), bowlinette_text(99)) == 0);
+    CHECK(BOWLINETTE_CHAIN_LAST_SET_128 == BOWLINETTE_CHAIN_SET(BOWLINETTE_ROUNDS_128));
+    CHECK(BOWLINETTE_CHAIN_LAST_SET_192 == BOWLINETTE_CHAIN_SET(BOWLINETTE_ROUNDS_192));
+    CHECK(BOWLINETTE_CHAIN_LAST_SET_256 == BOWLINETTE_CHAIN_SET(BOWLINETTE_ROUNDS_256));
 }
 
 /* A block through LEA and back, and through the tables of a book. */
@@ -306,6 +334,11 @@ static void refusals_of_the_archive(const struct size *s)
     REFUSED(3, bowlinette_check(key, s->key, message, SET, message, INK, tag, BLOCK, &room.small));
     REFUSED(7, bowlinette_check(key, s->key, set, SET, message, INK, tag, BLOCK + 1, &room.small));
     REFUSED(8, bowlinette_check(key, s->key, set, SET, message, LONGEST + 1, tag, BLOCK, &room.small));
+    CHECK(bowlinette_is_valid(key, 33, set, SET, message, INK, tag, BLOCK) == 0);
+    CHECK(bowlinette_is_valid(key, s->key, set, 0, message, INK, tag, BLOCK) == 0);
+    CHECK(bowlinette_is_valid(key, s->key, message, SET, message, INK, tag, BLOCK) == 0);
+    CHECK(bowlinette_is_valid(key, s->key, set, SET, message, INK, tag, BLOCK + 1) == 0);
+    CHECK(bowlinette_is_valid(key, s->key, set, SET, message, LONGEST + 1, tag, BLOCK) == 0);
 }
 
 int main(void)
@@ -315,9 +348,11 @@ int main(void)
 
     for (i = 0; i < sizeof key; i++)
         key[i] = (uint8_t)(29 * i + 1);
+    texts();
     refusals_of_blocks();
     for (i = 0; i < sizeof sizes / sizeof sizes[0]; i++) {
         const struct size *s = &sizes[i];
+        offsets(s);
         works(s);
         blocks(s);
         for (n = 0; n < sizeof lengths / sizeof lengths[0]; n++) {

@@ -167,7 +167,10 @@ module _ (key set iv sealed out : List ℕ) where
 
             pub open-done : endsPadded (openedText (decipher z key) (setOf set) iv sealed) ≡ true
                 → openAnswer key set iv sealed out
-                ≡ ((0, length (unpadded (openedText (decipher z key) (setOf set) iv sealed))), unpadded (openedText (decipher z key) (setOf set) iv sealed)
-                ++ drop (length (unpadded (openedText (decipher z key) (setOf set) iv sealed))) out)
+                ≡ (
+                  (0, length (unpadded (openedText (decipher z key) (setOf set) iv sealed))),
+                  unpadded (openedText (decipher z key) (setOf set) iv sealed)
+                      ++ drop (length (unpadded (openedText (decipher z key) (setOf set) iv sealed))) out,
+                )
             unfolding text opened first
             open-done h = open-roomy ∙ first-pass (not (endsPadded (text z))) 11 [] left (opened (text z)) (ap not h)

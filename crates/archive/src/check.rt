@@ -20,17 +20,17 @@ pub enum Checked {
     Refused(Refusal),
 }
 
-// Whether a block is what a slice of 16 bytes holds.
+// Whether a block is what a slice of 16 bytes holds. All bytes are looked at, and what differs is
+// tested once, so that the time does not tell where.
 fn same(a: [u8; 16], b: &[u8]) -> bool
     requires { ⌜ length (now b) ≡ blockLength ⌝ }
     ensures { λ r. ⌜ r ≡ R.sameBlock a (now (b .entry)) ⌝ }
 {
+    let mut differs = 0u8;
     for k in 0..lengths::BLOCK {
-        if a[k] != b[k] {
-            return false;
-        }
+        differs = differs | (a[k] ^ b[k]);
     }
-    true
+    differs == 0
 }
 
 // Whether a tag, coded by set r, is that of a message under a key. The message's own tag is coded

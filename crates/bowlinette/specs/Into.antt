@@ -11,3 +11,8 @@ into (suc n, value) old = (suc n, old)
 abbrev pub kept : {A B : Type 0} → (ℕ × A) × B → A → (ℕ × A) × B
 kept ((zero, told), out) old = ((zero, told), out)
 kept ((suc n, told), out) old = ((suc n, old), out)
+
+-- 1 for the one answer that says Valid, 0 for Invalid and for every refusal
+abbrev pub validOnly : ℕ × ℕ → ℕ
+validOnly (zero, verdict) = verdict
+validOnly (suc n, verdict) = 0

@@ -3,7 +3,7 @@
 ghost use mathlib.Core.Path.{_≡_};
 ghost use Rattle.cipher.specs.Answers.{blockTold, encipherAnswer, decipherAnswer, roundsAnswer, rowAnswer, setChecked, chainChecked};
 ghost use Rattle.cipher.specs.Refusal.{writtenOf};
-ghost use Rattle.bowlinette.specs.Into.{into, kept};
+ghost use Rattle.bowlinette.specs.Into.{into, kept, validOnly};
 ghost use Rattle.book.specs.Answers.{buildAnswer, buildRoundAnswer};
 ghost use Rattle.pad.specs.Answers.{sealingAnswer, tagAnswer};
 ghost use Rattle.driver.specs.Driver as D;
@@ -243,4 +243,16 @@ pub extern "C" fn bowlinette_check(
     ensures { λ r. ⌜ (r, now (valid .exit)) ≡ into (R.checkAnswer (now (key .entry)) (now (set .entry)) (now (message .entry)) (now (tag .entry))) (now (valid .entry)) ⌝ }
 {
     deliver_verdict(archive::check::check(key, set, message, tag), valid)
+}
+
+// Whether a tag is Valid for a message: 1 for Valid, 0 for Invalid and for every refusal.
+#[no_mangle]
+pub extern "C" fn bowlinette_is_valid(key: &[u8], set: &[u8], message: &[u8], tag: &[u8]) -> u32
+    ensures { λ r. ⌜ r ≡ validOnly (R.checkAnswer (now (key .entry)) (now (set .entry)) (now (message .entry)) (now (tag .entry))) ⌝ }
+{
+    match archive::check::check(key, set, message, tag) {
+        Checked::Valid => 1,
+        Checked::Invalid => 0,
+        Checked::Refused(_) => 0,
+    }
 }

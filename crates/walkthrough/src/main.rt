@@ -1,5 +1,5 @@
 // One ink file on its way from the pad over the driver and the server to the archive and the loan
-// desk, printed station by station for people to follow; then the same with one bit of the sealed
+// desk, printed station by station for people to follow; then its end again with one bit of the sealed
 // file flipped, and with one bit of the tag flipped. Nothing is read: key, chain and ink are made by
 // fixed rules.
 ghost use mathlib.Core.Path.{_≡_};
@@ -7,6 +7,7 @@ ghost use lib.ListN.{length};
 use cipher::lengths;
 
 mod made; // made.rt: the key, the chain and the ink
+mod compare; // compare.rt: what of an opened message is spoiled
 mod print; // print.rt: lines of text
 mod stations; // stations.rt: what each station does
 
@@ -33,11 +34,11 @@ fn next_pad() {
     let mut chain = chain_room();
     made::chain(2, &mut chain);
     let mut book = book_room();
-    print::say(b"\n7. The works builds the next pad's book\n");
+    print::say(b"\nThursday, at the works\n7. The works builds the next pad's book\n");
     stations::works(&key, &chain, &mut book);
 }
 
-// The way of one ink file, the next pad's book, and the first way's end with damage.
+// The way of one ink file, the next pad's book, and the end of that way with damage.
 fn one_pad() {
     let key = made::key(1);
     let mut chain = chain_room();

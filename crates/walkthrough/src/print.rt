@@ -26,6 +26,11 @@ pub fn number(n: usize) {
     if n < 10 {
         say(b" ");
     }
+    plain(n);
+}
+
+// A number in as many digits as it has.
+pub fn plain(n: usize) {
     io::print_decimal(STDOUT, n as u64);
 }
 

@@ -1,6 +1,7 @@
 // What each station does with an ink file, and prints of it.
 ghost use mathlib.Core.Path.{_≡_};
 ghost use lib.ListN.{length};
+use crate::compare::compare;
 use crate::print::refused;
 use crate::print::say;
 use crate::print::show;
@@ -47,7 +48,7 @@ pub fn works(key: &[u8], chain: &[u8], book: &mut [u8]) {
 
 // The pad: codes the ink for sealing and for a tag, and answers the kind.
 fn pad_codes(u: &[u8], ink: &[u8], for_sealing: &mut [u8], for_tag: &mut [u8]) -> u8 {
-    say(b"\n2. The pad codes the ink, and has no key\n");
+    say(b"\nTuesday, at the counter\n2. The pad codes the ink, and has no key\n");
     show(b"   in   message set      ", u);
     show(b"   in   ink file         ", ink);
     if let Written::Refused(why) = code_for_sealing(u, ink, for_sealing) {
@@ -119,68 +120,62 @@ fn counter(u: &[u8], ink: &[u8], book: &[u8], iv: &[u8], sealed: &mut [u8]) -> [
 
 // The server: keeps what the driver sends and cannot read it.
 fn server(iv: &[u8], sealed: &[u8], tag: &[u8]) {
-    say(b"\n4. The server keeps what it was sent, unread\n");
+    say(b"\nTuesday night, on the server\n4. The server keeps what it was sent, unread\n");
     show(b"   has  IV               ", iv);
     show(b"   has  sealed file      ", sealed);
     show(b"   has  tag              ", tag);
 }
 
-// Whether two files are the same.
-fn same(a: &[u8], b: &[u8]) -> bool {
-    if a.len() != b.len() {
-        return false;
-    }
-    for k in 0..a.len() {
-        if a[k] != b[k] {
-            return false;
-        }
-    }
-    true
-}
-
-// The archive: checks the tag of a message; whether it says Valid.
-fn valid(key: &[u8], set: &[u8], message: &[u8], tag: &[u8], ink: &[u8]) -> bool {
+// The archive: checks the tag of a message. A refusal is no verdict, and says so.
+fn judge(key: &[u8], set: &[u8], message: &[u8], tag: &[u8], ink: &[u8]) -> bool {
     show(b"   out  message          ", message);
-    if same(message, ink) {
-        say(b"        it is the pad's ink file\n");
-    } else {
-        say(b"        it is not the pad's ink file\n");
-    }
+    compare(message, ink);
     match check(key, set, message, tag) {
-        Checked::Valid => true,
-        Checked::Invalid => false,
-        Checked::Refused(_) => false,
+        Checked::Valid => {
+            say(b"   out  verdict          Valid\n");
+            true
+        }
+        Checked::Invalid => {
+            say(b"   out  verdict          Invalid\n");
+            false
+        }
+        Checked::Refused(why) => {
+            refused(b"   out  verdict          none: ", why.number());
+            false
+        }
     }
 }
 
 // The front of a text as the message that a length tells.
-fn valid_front(key: &[u8], set: &[u8], text: &[u8], n: usize, tag: &[u8], ink: &[u8]) -> bool {
+fn judge_front(key: &[u8], set: &[u8], text: &[u8], n: usize, tag: &[u8], ink: &[u8]) -> bool {
     if text.len() < n {
         return false;
     }
-    valid(key, set, &text[0..n], tag, ink)
+    judge(key, set, &text[0..n], tag, ink)
 }
 
-// The archive: opens the sealed file and checks the tag of what it held; whether it says Valid.
-fn opened_valid(key: &[u8], set: &[u8], ink: &[u8], iv: &[u8], sealed: &[u8], tag: &[u8]) -> bool {
+// The archive: opens the sealed file and checks the tag of what it held; whether it says Valid. Where
+// nothing is opened, there is nothing to check.
+fn archive_says(key: &[u8], set: &[u8], ink: &[u8], iv: &[u8], sealed: &[u8], tag: &[u8]) -> bool {
     let mut text = room();
-    let Written::Bytes(n) = open(key, set, iv, sealed, &mut text) else {
-        say(b"   out  message          refused\n");
-        return false;
-    };
-    valid_front(key, set, &text, n, tag, ink)
+    match open(key, set, iv, sealed, &mut text) {
+        Written::Bytes(n) => judge_front(key, set, &text, n, tag, ink),
+        Written::Refused(why) => {
+            refused(b"   out  message          none: ", why.number());
+            say(b"   out  verdict          none: nothing was opened, so no tag was checked\n");
+            false
+        }
+    }
 }
 
 // The bank: the archive, which has the key and the last set, and the loan desk.
 fn bank(key: &[u8], set: &[u8], ink: &[u8], iv: &[u8], sealed: &[u8], tag: &[u8]) {
-    say(b"\n5. The archive has the key and the last set: it opens the file and checks the tag\n");
+    say(b"5. The archive has the key and the last set: it opens the file and checks the tag\n");
     show(b"   in   sealed file      ", sealed);
     show(b"   in   tag              ", tag);
-    if opened_valid(key, set, ink, iv, sealed, tag) {
-        say(b"   out  verdict          Valid\n");
+    if archive_says(key, set, ink, iv, sealed, tag) {
         say(b"\n6. The loan desk releases the loan\n");
     } else {
-        say(b"   out  verdict          Invalid\n");
         say(b"\n6. The loan desk releases nothing\n");
     }
 }
@@ -212,13 +207,14 @@ pub fn front(
     book: &mut [u8],
     sealed: &mut [u8],
 ) -> [u8; 16] {
-    say(b"1. The works builds the pad's book\n");
+    say(b"Monday, at the works\n1. The works builds the pad's book\n");
     works(key, chain, book);
     if chain.len() < LAST_END {
         return [0u8; 16];
     }
     let tag = counter(&chain[0..lengths::SET], ink, book, iv, sealed);
     server(iv, sealed, &tag);
+    say(b"\nWednesday, at the bank\n");
     tag
 }
 
@@ -229,14 +225,21 @@ pub fn back(key: &[u8], chain: &[u8], ink: &[u8], iv: &[u8], sealed: &[u8], tag:
     }
 }
 
-// The archive and the loan desk with a bit of the sealed file flipped, and with a bit of the tag
-// flipped.
+// The archive and the loan desk with a bit of the sealed file flipped, in its middle and in the block
+// before the last, and with a bit of the tag flipped.
 pub fn damaged(key: &[u8], chain: &[u8], ink: &[u8], iv: &[u8], sealed: &[u8], tag: &[u8]) {
-    say(b"\nThe same, with bit 2 of byte 4711 of the sealed file flipped on the server\n");
+    say(
+        b"\nFriday, the file again: bit 2 of byte 4711 of it, in block 294, was flipped on the server\n",
+    );
     let mut bad = room();
     put_flipped(sealed, 4711, 4, &mut bad);
     back(key, chain, ink, iv, &bad, tag);
-    say(b"\nThe same, with bit 0 of byte 3 of the tag flipped on the server\n");
+    say(
+        b"\nFriday, once more: bit 4 of byte 9407, the last of the block before the last, was flipped\n",
+    );
+    put_flipped(sealed, 9407, 16, &mut bad);
+    back(key, chain, ink, iv, &bad, tag);
+    say(b"\nFriday, the file as it was: bit 0 of byte 3 of its tag was flipped on the server\n");
     let mut bad_tag = [0u8; 16];
     put_flipped(tag, 3, 1, &mut bad_tag);
     back(key, chain, ink, iv, sealed, &bad_tag);

@@ -152,6 +152,16 @@ mod c {
             tag_length: usize,
             valid: *mut u8,
         ) -> u32;
+        pub fn bowlinette_is_valid(
+            key: *const u8,
+            key_length: usize,
+            set: *const u8,
+            set_length: usize,
+            message: *const u8,
+            message_length: usize,
+            tag: *const u8,
+            tag_length: usize,
+        ) -> u32;
         pub fn bowlinette_tag_roundtrip(
             key: *const u8,
             key_length: usize,
@@ -476,6 +486,23 @@ pub fn check(key: &[u8], set: &[u8], message: &[u8], tag: &[u8], valid: &mut u8)
             tag.as_ptr(),
             tag.len(),
             valid,
+        )
+    }
+}
+
+/// Whether a tag is Valid: 1, or 0 where it is Invalid or checking refuses.
+#[inline]
+pub fn is_valid(key: &[u8], set: &[u8], message: &[u8], tag: &[u8]) -> u32 {
+    unsafe {
+        c::bowlinette_is_valid(
+            key.as_ptr(),
+            key.len(),
+            set.as_ptr(),
+            set.len(),
+            message.as_ptr(),
+            message.len(),
+            tag.as_ptr(),
+            tag.len(),
         )
     }
 }

@@ -29,6 +29,8 @@ pub fn check(key: &[u8], set: &[u8], message: &[u8], tag: &[u8]) -> Result<bool,
     let want = archive::check(key, set, message, tag);
     let given = (key.len(), set.len(), message.len(), tag.len());
     assert_eq!(valid, want.map(u8::from), "check, {given:?}");
+    let one = bowlinette::is_valid(key, set, message, tag);
+    assert_eq!(one, u32::from(want == Ok(true)), "is_valid, {given:?}");
     want
 }
 

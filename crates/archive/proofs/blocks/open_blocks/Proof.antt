@@ -85,8 +85,13 @@ put-xored-requires-4 c κs =
     let p3 = c .before .before .before in
     let p2 = p3 .before .before .before .before in
     let p1 = p2 .before .before .before .before in
-    omega (arith, room (p1 .before .before .before .before .before .before .before .before .before .before .before .before .before) .1, p3 .put-xored3 .kept .0,
-    p2 .put-xored2 .kept .0, p1 .put-xored .kept .0)
+    omega (
+      arith,
+      room (p1 .before .before .before .before .before .before .before .before .before .before .before .before .before) .1,
+      p3 .put-xored3 .kept .0,
+      p2 .put-xored2 .kept .0,
+      p1 .put-xored .kept .0,
+    )
 
 add-j : tie.Need-add-j Inv-loop μ-loop Inv-loop2 μ-loop2
 add-j c =

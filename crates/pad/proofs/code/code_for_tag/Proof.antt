@@ -23,8 +23,12 @@ returns c =
     (tag-length m ∙ ap (λ (k : ℕ). length m + k) (sym (t .ensures))) _ (c .before .before .before .admit .ensures) _ (c .before .why .given .1)
 
 part-code-text-end : tie.Need-part-code-text-end
-part-code-text-end c = omega (arith, c .before .before .before .before .tag-added .ensures, added-most
-    (length (c .before .before .before .before .before .before .before .before .before .args .message .now)))
+part-code-text-end c = omega (
+  arith,
+  c .before .before .before .before .tag-added .ensures,
+  added-most
+      (length (c .before .before .before .before .before .before .before .before .before .args .message .now)),
+)
 
 code-text-requires : tie.Need-code-text-requires
 code-text-requires c κs =
@@ -36,8 +40,12 @@ code-text-requires c κs =
     (h .0, h .1, omega (arith, h .2, f))
 
 add-t10 : tie.Need-add-t10
-add-t10 c = omega (arith, c .before .before .before .before .before .before .before .before .before .tag-added .ensures, added-most
-    (length (c .before .before .before .before .before .before .before .before .before .before .before .before .before .before .args .message .now)))
+add-t10 c = omega (
+  arith,
+  c .before .before .before .before .before .before .before .before .before .tag-added .ensures,
+  added-most
+      (length (c .before .before .before .before .before .before .before .before .before .before .before .before .before .before .args .message .now)),
+)
 
 returns-2 : tie.Need-returns-2
 returns-2 c =

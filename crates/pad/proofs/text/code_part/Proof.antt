@@ -35,7 +35,7 @@ loop-again c =
       l .loop .inv .1,
       simp length-set (l .loop .inv .2),
       part-turn (λ k. imageAt (a .images .now) ((a .from + k) % 16) (getD (a .part .now) k 0)) (a .out .now) (l .loop .out) (a .from) (l .loop .i)
-      (length (a .part .now)) (l .before .before .before .before .pre .1) (l .loop .inv .3) _
+          (length (a .part .now)) (l .before .before .before .before .pre .1) (l .loop .inv .3) _
           (ap (imageAt (a .images .now) ((a .from + l .loop .i) % 16)) (c .before .wide .ensures .0)) (omega arith),
     )
 

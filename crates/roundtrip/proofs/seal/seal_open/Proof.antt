@@ -24,8 +24,13 @@ returns-2 : tie.Need-returns-2
 unfolding sealedOpened
 returns-2 c =
     let a = c .before .before .before .before .before .before .before .before .before .before .before .before .before .before .before .before .before .before .before .before .args in
-    ap (λ (y : (ℕ × ℕ) × List ℕ). (y .0, (c .before .before .before .before .before .before .before .before .before .before .before .seal .last .1 .1 .1 .0,
-    y .1))) (c .before .before .«open» .ensures)
+    ap (λ (y : (ℕ × ℕ) × List ℕ). (
+      y .0,
+      (
+        c .before .before .before .before .before .before .before .before .before .before .before .seal .last .1 .1 .1 .0,
+        y .1,
+      ),
+    )) (c .before .before .«open» .ensures)
     ∙ sym (written-done _ _ _ (c .before .before .before .before .before .before .before .before .before .before .before .seal .ensures) (a .out .now)
     (λ f. openAnswer (a .key .now) (a .set .now) (a .iv .now) f (a .out .now)) _ (c .before .before .before .before .before .before .before .n .given .1))
 

@@ -1,0 +1,72 @@
+/* A message from the pad to the archive: coded, sealed, tagged; opened, and its tag checked. */
+#include "bowlinette.h"
+#include <stdio.h>
+#include <stdlib.h>
+
+enum { BLOCK = BOWLINETTE_BLOCK_LENGTH, SET = BOWLINETTE_SET_LENGTH, ROUNDS = BOWLINETTE_ROUNDS_128 };
+
+static uint8_t chain[BOWLINETTE_CHAIN_LENGTH_128], book[BOWLINETTE_BOOK_LENGTH_128];
+
+/* Ends the program where a call was refused. */
+static void done(const char *call, uint32_t refusal)
+{
+    if (refusal != BOWLINETTE_DONE) {
+        fprintf(stderr, "%s: %s\n", call, bowlinette_text(refusal));
+        exit(1);
+    }
+}
+
+/* Bytes that nobody can foretell. */
+static void random_bytes(uint8_t *out, size_t n)
+{
+    FILE *source = fopen("/dev/urandom", "rb");
+    if (source == NULL || fread(out, 1, n, source) != n) {
+        fprintf(stderr, "no random bytes\n");
+        exit(1);
+    }
+    fclose(source);
+}
+
+/* Codings that change nothing, and no masks: a chain for a first look, not for a pad. */
+static void plain_chain(void)
+{
+    size_t i, l;
+    for (i = 0; i < BOWLINETTE_CHAIN_ROUND(ROUNDS, 0); i++)
+        chain[i] = (uint8_t)(i % BOWLINETTE_CODING_LENGTH);
+    for (l = 0; l < ROUNDS; l++)
+        for (i = 0; i < BOWLINETTE_ROUND_MASKS; i++)
+            chain[BOWLINETTE_CHAIN_ROUND(ROUNDS, l) + i] = (uint8_t)(i % BOWLINETTE_CODING_LENGTH);
+}
+
+int main(void)
+{
+    static const uint8_t message[] = "ink"; /* with the zero at its end */
+    const uint8_t *u = chain + BOWLINETTE_CHAIN_MESSAGE_SET, *last = chain + BOWLINETTE_CHAIN_LAST_SET_128;
+    uint8_t key[BOWLINETTE_KEY_LENGTH_128], iv[BLOCK], coded[BLOCK], sealed[BLOCK], opened[BLOCK], tag[BLOCK], kind;
+    bowlinette_session session;
+    uint64_t n;
+
+    /* the works, which has the key */
+    random_bytes(key, sizeof key);
+    plain_chain();
+    done("build", bowlinette_build(key, sizeof key, chain, sizeof chain, book, sizeof book));
+
+    /* the pad codes for sealing, which has the message set; the teller's PC seals, which has the book */
+    random_bytes(iv, sizeof iv);
+    done("code", bowlinette_code_for_sealing(u, SET, message, sizeof message, coded, sizeof coded, &n));
+    done("seal", bowlinette_seal(book, sizeof book, iv, sizeof iv, coded, n, sealed, sizeof sealed, &n));
+
+    /* the pad codes for a tag; the PC makes it in a session: this message is one block */
+    done("code", bowlinette_code_for_tag(u, SET, message, sizeof message, coded, sizeof coded, &n, &kind));
+    done("begin", bowlinette_begin(&session, book, sizeof book));
+    done("last call", bowlinette_last_call(&session, book, sizeof book, coded, n, kind, tag));
+
+    /* the archive, which has the key and the last set */
+    done("open", bowlinette_open(key, sizeof key, last, SET, iv, sizeof iv, sealed, sizeof sealed, opened, sizeof opened, &n));
+    if (!bowlinette_is_valid(key, sizeof key, last, SET, opened, n, tag, sizeof tag)) {
+        fprintf(stderr, "the tag is not valid\n");
+        return 1;
+    }
+    printf("%s\n", (const char *)opened);
+    return 0;
+}
