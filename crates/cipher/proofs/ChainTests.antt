@@ -16,7 +16,8 @@ use Rattle.lists.proofs.RefusalLaws.{Clear}
 use Rattle.cipher.specs.KeySize.{rounds, chainLength}
 use Rattle.cipher.specs.Coding.{OneToOne, Permutation, Permutations, SameWord, codingAt, setOf}
 use Rattle.cipher.specs.Tables.{ValidCodings, ValidRound}
-use Rattle.cipher.specs.Chain.{roundBytes, maskAt, maskIn, roundCodings, CodingRule, SameWords, WordRule, MaskRule, Chain, LoneSet, isOneToOne, arePermutations, codingRuleHolds, wordKept, wordsKept, wordRuleHolds, maskLimit, maskRuleHolds, setTests, chainTests}
+use Rattle.cipher.specs.Chain.{roundBytes, maskAt, maskIn, roundCodings, CodingRule, SameWords, WordRule, MaskRule, Chain, LoneSet}
+use Rattle.cipher.specs.Chain.{isOneToOne, arePermutations, codingRuleHolds, wordKept, wordsKept, wordRuleHolds, maskLimit, maskRuleHolds, setTests, chainTests}
 use Rattle.cipher.specs.Lengths.{setLength}
 use Rattle.cipher.specs.declared.size.KeySize.{KeySize}
 use Rattle.cipher.proofs.Permutation.{once-ext}
@@ -124,7 +125,7 @@ module _ (from to : ℕ) (s t : List ℕ) where
       eq-eqb (getD t (128 * to + k) 0) (getD s (128 * from + k) 0)
       (ap (λ (n : ℕ). getD t n 0) (sym a) ∙ h (k / 16) (k % 16) (omega arith) (omega arith) ∙ ap (λ (n : ℕ). getD s n 0) b))
 
--- so for all sets of a chain
+-- the same for all sets of a chain
 module _ (from to r : ℕ) (ch : List ℕ) where
   pub words-tested : wordsKept from to r ch ≡ true → SameWords from to r ch
   unfolding wordsKept

@@ -115,7 +115,7 @@ codingRuleHolds r ch = arePermutations (32 * (r + 2)) ch && every r (λ l. arePe
 abbrev pub wordKept : ℕ → ℕ → List ℕ → List ℕ → Bool
 wordKept from to before after = every wordLength (λ k. eqb (getD after (wordLength * to + k) 0) (getD before (wordLength * from + k) 0))
 
--- so between all sets of a chain of r rounds
+-- the same between each set of a chain of r rounds and the next
 unfoldable pub wordsKept : ℕ → ℕ → ℕ → List ℕ → Bool
 wordsKept from to r ch = every r (λ l. wordKept from to (drop (setLength * suc l) ch) (drop (setLength * suc (suc l)) ch))
 

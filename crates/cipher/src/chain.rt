@@ -90,7 +90,7 @@ pub fn word_kept(before: &[u8], from: usize, after: &[u8], to: usize) -> bool
     true
 }
 
-// Whether so it is between all sets of a chain of r rounds, each and the next.
+// Whether the same holds between each set of a chain of r rounds and the next.
 pub fn words_kept(chain: &[u8], r: usize, from: usize, to: usize) -> bool
     requires { ⌜ (r ≤ 32) × (1024 + 920 * r ≤ length (now chain)) × (from < 4) × (to < 4) ⌝ }
     ensures { λ b. ⌜ b ≡ C.wordsKept from to r (now (chain .entry)) ⌝ }

@@ -28,7 +28,7 @@ identity-permutes = record { low = λ i l. l; once = λ i k l m e. e }
 pub identity-valid : (z : KeySize) → Chain z (identityChain z)
 unfolding identityChain
 identity-valid z =
-    from-valid z (λ w j v. v) (λ l w j v. v) (λ l i j v. v) (λ l k. 0)
+    from-valid z _ _ _ _
     (record {
       message = λ w j hw hj. identity-permutes;
       sets = λ l hl w j hw hj. identity-permutes;
@@ -48,7 +48,7 @@ mask-bit false = lit< tt
 pub shifted-valid : (z : KeySize) → Chain z (shiftedChain z)
 unfolding shiftedChain
 shifted-valid z =
-    from-valid z (λ w j. shifted (shiftAt 0 w j)) (λ l w j. shifted (shiftAt l w j)) (λ l i j. shifted (shiftAt l i j)) (λ l k. cond (eqb (k % 8) 0) 0 1)
+    from-valid z _ _ _ _
     (record {
       message = λ w j hw hj. shifted-permutes (shiftAt 0 w j);
       sets = λ l hl w j hw hj. shifted-permutes (shiftAt l w j);
