@@ -155,6 +155,7 @@ use Rattle.cipher.proofs.{path}.Laws as R′
 use Rattle.driver.specs.Driver.{{{told}, {spec.split()[0]}}}
 use Rattle.driver.specs.declared.session.Session.{{Session}}
 use Rattle.driver.specs.declared.session.{out}.{{{out}}}
+use Rattle.driver.proofs.LentLocal.{{valT}}
 use Rattle.driver.proofs.session.Session as T
 use Rattle.driver.proofs.session.Session.Laws as T′
 use Rattle.driver.proofs.session.{out} as S
@@ -171,10 +172,7 @@ use Rattle.driver.proofs.lent.{F}.Code as code
 abbrev stayed : Stays (f.ended .signature .params) (f.ended .kept)
 stayed = {tup(['stay-ref (0 ∷ []) tt (plain (λ _. T.the-row))'] + [f'stay-none-slice ({at[k] + 1} ∷ []) tt (plain (λ _. u8)) yes' if k in at else 'stay-none (λ _. u8) yes' for k in range(p)])}
 
--- the machine values of a session and of an answer
-abbrev valT : Session → Val
-valT h = LL.val T.the-type T′.the-laws h
-
+-- the machine value of an answer
 abbrev valR : {rname} → Val
 valR a = {E}.val R.the-type R′.the-laws a
 

@@ -51,7 +51,7 @@ bookOf r rows ch = startPart r ch ++ (chunks 3 (bookGroup r rows ch) ++ chunks r
 
 -- ---- where the parts stand
 
--- the body of a book, of which all that reads a book reads: nothing stands in front of it
+-- the body of a book, in which all its parts stand: the whole of it
 abbrev pub bookBody : List ℕ → List ℕ
 bookBody bk = drop bodyStart bk
 

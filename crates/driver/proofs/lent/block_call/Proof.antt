@@ -50,6 +50,7 @@ use Rattle.cipher.proofs.refusal.Outcome.Laws as R′
 use Rattle.driver.specs.Driver.{sessionTold, blockAnswer}
 use Rattle.driver.specs.declared.session.Session.{Session}
 use Rattle.driver.specs.declared.session.SessionAnswer.{SessionAnswer}
+use Rattle.driver.proofs.LentLocal.{valT}
 use Rattle.driver.proofs.session.Session as T
 use Rattle.driver.proofs.session.Session.Laws as T′
 use Rattle.driver.proofs.session.SessionAnswer as S
@@ -69,10 +70,7 @@ stayed = (
   (stay-none-slice (1 ∷ []) tt (plain (λ _. u8)) yes, (stay-none-slice (2 ∷ []) tt (plain (λ _. u8)) yes, tt)),
 )
 
--- the machine values of a session and of an answer
-abbrev valT : Session → Val
-valT h = LL.val T.the-type T′.the-laws h
-
+-- the machine value of an answer
 abbrev valR : Outcome → Val
 valR a = EL.val R.the-type R′.the-laws a
 

@@ -50,6 +50,7 @@ use Rattle.cipher.proofs.answer.BlockAnswer.Laws as R′
 use Rattle.driver.specs.Driver.{tagTold, lastAnswer}
 use Rattle.driver.specs.declared.session.Session.{Session}
 use Rattle.driver.specs.declared.session.TagAnswer.{TagAnswer}
+use Rattle.driver.proofs.LentLocal.{valT}
 use Rattle.driver.proofs.session.Session as T
 use Rattle.driver.proofs.session.Session.Laws as T′
 use Rattle.driver.proofs.session.TagAnswer as S
@@ -69,10 +70,7 @@ stayed = (
   (stay-none-slice (1 ∷ []) tt (plain (λ _. u8)) yes, (stay-none-slice (2 ∷ []) tt (plain (λ _. u8)) yes, (stay-none (λ _. u8) yes, tt))),
 )
 
--- the machine values of a session and of an answer
-abbrev valT : Session → Val
-valT h = LL.val T.the-type T′.the-laws h
-
+-- the machine value of an answer
 abbrev valR : BlockAnswer → Val
 valR a = LL.val R.the-type R′.the-laws a
 
