@@ -29,7 +29,7 @@ use Rattle.cipher.proofs.InverseLaws.{length-inverted, inverted-at}
 use Rattle.cipher.proofs.TableLaws.{add-rows, turn-rows, fold-rows}
 use Rattle.table_maker.specs.Rows.{rowBy, tableBy}
 use Rattle.table_maker.specs.Made.{RoundBytes, RoundReady, codingsOf, keyedBy, summands, sumEntries, madeAdd, upperPart, lowerPart, upperParts, lowerParts, madeTurn, madeFold}
-use Rattle.table_maker.proofs.MadeLaws.{length-add, length-turn, length-fold}
+use Rattle.table_maker.proofs.MadeLaws.{length-add, length-turn}
 
 -- ---- tables by their entries
 

@@ -1,14 +1,14 @@
 -- The start and the three groups as the builder puts them together.
-use mathlib.Core.Path.{_≡_, refl, sym, ap, ap₂, _∙_}
-use mathlib.Core.List.{List, [], _++_}
-use Prim.Native.Nat.{ℕ, _+_, _*_, _/_, _%_, _≤_, _<_}
+use mathlib.Core.Path.{_≡_, sym, ap, ap₂, _∙_}
+use mathlib.Core.List.{List, _++_}
+use Prim.Native.Nat.{ℕ, _+_, _*_, _/_, _%_, _<_}
 use native.Mathlib.Nat.{le-of-eq}
 use native.Mathlib.Omega.{arith}
 use lib.Dec.{lit<}
 use lib.ListN.{length, getD, take, drop, length-append, length-drop}
 use lib.Seq.{drop-at, length-take-le}
 use Rattle.lists.specs.Tabulation.{tab, chunks}
-use Rattle.lists.specs.Blocks.{Bytes, zeros}
+use Rattle.lists.specs.Blocks.{zeros}
 use Rattle.lists.proofs.TabulationLaws.{tab-ext, getD-replicate}
 use Rattle.lists.proofs.ChunkLaws.{length-chunks}
 use Rattle.lists.proofs.PartLaws.{grown-part, grown-whole}

@@ -2,20 +2,20 @@
 use mathlib.Core.Path.{_≡_, refl, sym, ap, ap₂, _∙_}
 use mathlib.Core.List.{List, [], _++_, append-assoc}
 use Prim.Native.Nat.{ℕ, zero, suc, _+_, _-_, _*_, _≤_, _<_}
-use native.Mathlib.Nat.{le-of-eq, le-refl, le-of-suc-le-suc, not-suc-le-zero}
+use native.Mathlib.Nat.{le-of-eq, le-refl}
 use native.Mathlib.Omega.{arith}
 use lib.ListN.{length, getD, take, drop, length-append, length-drop}
 use lib.Seq.{drop-at, length-take-le}
-use Rattle.lists.specs.Tabulation.{tab, chunks}
+use Rattle.lists.specs.Tabulation.{chunks}
 use Rattle.lists.specs.Blocks.{zeros}
 use Rattle.lists.proofs.TabulationLaws.{length-tab}
 use Rattle.lists.proofs.ChunkLaws.{length-chunks, chunks-ext}
 use Rattle.lists.proofs.PartLaws.{grown-part, grown-whole, part-end}
-use Rattle.cipher.specs.KeySize.{rounds, bookLength}
+use Rattle.cipher.specs.KeySize.{rounds}
 use Rattle.cipher.specs.Lea.{firstRounds}
 use Rattle.cipher.specs.Cmac.{subkey1, subkey2}
 use Rattle.cipher.specs.Coding.{Set, FirstPermutations, setOf, ofHalves, coded}
-use Rattle.cipher.specs.Chain.{Chain, roundCodings, chainSet, messageSet}
+use Rattle.cipher.specs.Chain.{Chain, roundCodings}
 use Rattle.cipher.specs.Book.{startPart, groupPart, groupKey, bookGroup, bookRound, bookOf}
 use Rattle.cipher.proofs.BookLaw.{group-size, round-size}
 use Rattle.cipher.specs.declared.size.KeySize.{KeySize}

@@ -1,11 +1,11 @@
 -- A session comes back out of its record as it went in, so that a C caller's calls are those of one session.
-use mathlib.Core.Path.{_≡_, refl, ap, _∙_}
+use mathlib.Core.Path.{_≡_, refl, _∙_}
 use mathlib.Core.Bool.{Bool, true, false, not}
-use mathlib.Core.List.{List, [], _∷_, _++_}
-use Prim.Native.Nat.{ℕ, _+_, _*_, _/_, _%_, _<_}
+use mathlib.Core.List.{[], _∷_}
+use Prim.Native.Nat.{_+_, _*_, _/_, _%_, _<_}
 use native.Mathlib.Omega.{arith}
 use lib.Dec.{eqb}
-use lib.ListN.{length, getD, take}
+use lib.ListN.{length}
 use lib.Seq.{take-at}
 use Rattle.lists.proofs.ChunkLaws.{getD-second}
 use Rattle.driver.specs.declared.session.Session.{Session}

@@ -7,7 +7,7 @@ use native.Mathlib.Omega.{arith}
 use Rattle.cipher.specs.Book.{bookBody, startOf}
 use Rattle.cipher.specs.Lea.{keyRows}
 use Rattle.cipher.specs.Answers.{keySize}
-use Rattle.driver.specs.Driver.{fresh, spent, beginAnswer, begunOver, blockAnswer, lastAnswer}
+use Rattle.driver.specs.Driver.{fresh, spent, beginAnswer, blockAnswer, lastAnswer}
 use Rattle.driver.specs.declared.session.Session.{Session}
 use Rattle.driver.proofs.AnswerLaws.{begin-done, over-done}
 use Rattle.driver.proofs.SessionLaws.{Fits, fresh-fits, block-kept, last-kept}

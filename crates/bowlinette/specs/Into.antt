@@ -1,6 +1,5 @@
 -- What a C caller gets from an answer: its number, and behind the pointers the value, or, after a refusal, what was
 -- there before.
-use mathlib.Core.List.{List}
 use Prim.Native.Nat.{ℕ, zero, suc}
 
 abbrev pub into : {A : Type 0} → ℕ × A → A → ℕ × A

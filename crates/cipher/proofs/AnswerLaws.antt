@@ -2,7 +2,7 @@
 -- each refusal is given exactly under its condition.
 use mathlib.Core.Path.{_≡_, refl, sym, ap, _∙_}
 use mathlib.Core.Bool.{Bool, true, false, cond, not, _||_}
-use mathlib.Core.List.{List, [], _∷_, _++_}
+use mathlib.Core.List.{List, [], _++_}
 use Prim.Native.Nat.{ℕ, _%_, _≤_, _<_}
 use native.Mathlib.Omega.{arith}
 use borrow.Author.Tests.{eq-eqb, ne-eqb, eqb-true, eqb-false, le-leb, lt-leb, le-ltb, lt-ltb, ltb-false}
@@ -17,7 +17,8 @@ use Rattle.cipher.specs.Lea.{bytes, keyRows}
 use Rattle.cipher.specs.Answers.{keyLengthTests, keyTests, blockTests, badText, textTests, roomTests, keyLengthSize, keySize, onBlock}
 use Rattle.cipher.specs.Refusal.{numberOf}
 use Rattle.cipher.specs.declared.refusal.Refusal.{Refusal}
-use Rattle.cipher.specs.declared.refusal.Refusal.the-variants.{KeyLength, ChainLength, NoPermutation, WordRule, MaskByte, BookLength, BlockLength, MessageLength, ShortBuffer, KindByte, BadPadding, SessionFinished, SessionFull}
+use Rattle.cipher.specs.declared.refusal.Refusal.the-variants.{KeyLength, ChainLength, NoPermutation, WordRule, MaskByte, BookLength, BlockLength, MessageLength, ShortBuffer}
+use Rattle.cipher.specs.declared.refusal.Refusal.the-variants.{KindByte, BadPadding, SessionFinished, SessionFull}
 use Rattle.cipher.specs.declared.size.KeySize.{KeySize}
 use Rattle.cipher.specs.declared.size.KeySize.the-variants.{Bytes16, Bytes24, Bytes32}
 use Rattle.cipher.specs.declared.size.SizeFound.the-variants.{Found, Unknown}

@@ -1,6 +1,6 @@
 -- A chain put together from its parts: its length, what stands in each place of it, that it is valid exactly where its parts are as
 -- they must be; and every chain is the one that is put together from what it has.
-use mathlib.Core.Path.{_≡_, sym, ap, _∙_}
+use mathlib.Core.Path.{_≡_, sym, _∙_}
 use mathlib.Core.List.{List, _++_}
 use Prim.Native.Nat.{ℕ, suc, _+_, _-_, _*_, _/_, _%_, _≤_, _<_}
 use native.Mathlib.Decide.{decLt}

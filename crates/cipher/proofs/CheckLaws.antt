@@ -171,6 +171,12 @@ module _ {A : Type 0} (us : List (Bool × ℕ)) (refuse : ℕ → A) (go : A) wh
       each true k d = ap refuse d
       each false k d = k d
 
+  -- and where there is none, those decide
+  pub clear-taken : (ts : List (Bool × ℕ)) → Clear ts → first (ts ++ us) refuse go ≡ first us refuse go
+  unfolding first
+  clear-taken [] c = refl
+  clear-taken (t ∷ ts) c = rw (c .0) (clear-taken ts (c .1))
+
 set-numbered : (s : List ℕ) → Numbered (setTests s)
 unfolding setTests
 set-numbered s = (lit< tt, (lit< tt, tt))

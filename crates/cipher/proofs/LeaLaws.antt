@@ -1,13 +1,13 @@
 -- Laws of LEA over any rows of words: a round is undone, so are the first n rounds, and deciphering and enciphering a
 -- block undo each other, both ways round.
-use mathlib.Core.Path.{_≡_, refl, sym, ap, ap₂, _∙_}
-use Prim.Native.Nat.{ℕ, zero, suc, _+_, _*_, _/_, _%_, _^_, _≤_, _<_}
+use mathlib.Core.Path.{_≡_, refl, ap, _∙_}
+use Prim.Native.Nat.{ℕ, zero, suc, _+_, _*_, _^_, _≤_, _<_}
 use native.Mathlib.Numerals.{add-one}
 use native.Mathlib.Omega.{arith}
 use mathlib.Core.List.{List, [], _∷_, _++_}
 use lib.Bits.{bitXor}
 use lib.Dec.{lit<, lit≤}
-use lib.ListN.{getD, length, take}
+use lib.ListN.{getD, take}
 use lib.Seq.{getD-take}
 use Rattle.lists.specs.Tabulation.{tab}
 use Rattle.lists.specs.Blocks.{Below, Bytes, Block, zeros, xorBlock}
@@ -156,7 +156,8 @@ words-xor a b ha hb = λ i. at 0 (lit≤ tt) i ∷ at 4 (lit≤ tt) i ∷ at 8 (
     at k h =
         let e : (j : ℕ) → j < 4 → getD (xorBlock a b) (k + j) 0 ≡ bitXor (getD a (k + j) 0) (getD b (k + j) 0) = λ j l. xor-at a b (k + j) (omega arith) in
         (λ i. word (xor-at a b k (omega arith) i) (e 1 (lit< tt) i) (e 2 (lit< tt) i) (e 3 (lit< tt) i))
-        ∙ word-xor (getD a k 0) (getD a (k + 1) 0) (getD a (k + 2) 0) (getD a (k + 3) 0) (getD b k 0) (getD b (k + 1) 0) (getD b (k + 2) 0) (getD b (k + 3) 0) (ha k) (ha (k + 1)) (ha (k + 2)) (hb k) (hb (k + 1)) (hb (k + 2))
+        ∙ word-xor (getD a k 0) (getD a (k + 1) 0) (getD a (k + 2) 0) (getD a (k + 3) 0)
+        (getD b k 0) (getD b (k + 1) 0) (getD b (k + 2) 0) (getD b (k + 3) 0) (ha k) (ha (k + 1)) (ha (k + 2)) (hb k) (hb (k + 1)) (hb (k + 2))
 
 -- the words of the zero block
 pub words-zeros : words4 zeros ≡ 0 ∷ 0 ∷ 0 ∷ 0 ∷ []

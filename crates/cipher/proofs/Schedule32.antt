@@ -126,5 +126,6 @@ module _ (i : ℕ) (d t₀ q r : List ℕ) (size : length t₀ ≡ 8) (ed : d �
   pub queue-more : getD q 6 0 ∷ getD q 7 0 ∷ getD r 0 0 ∷ getD r 1 0 ∷ getD r 2 0 ∷ getD r 3 0 ∷ getD r 4 0 ∷ getD r 5 0 ∷ [] ≡ queued (i + 1) (stepped step32 (i + 1) t₀)
   unfolding queued row32
   queue-more =
-      (λ z. getD (eq z) 6 0 ∷ getD (eq z) 7 0 ∷ getD (row-front z) 0 0 ∷ getD (row-front z) 1 0 ∷ getD (row-front z) 2 0 ∷ getD (row-front z) 3 0 ∷ getD (row-front z) 4 0 ∷ getD (row-front z) 5 0 ∷ [])
+      (λ z. getD (eq z) 6 0 ∷ getD (eq z) 7 0 ∷ getD (row-front z) 0 0 ∷ getD (row-front z) 1 0
+      ∷ getD (row-front z) 2 0 ∷ getD (row-front z) 3 0 ∷ getD (row-front z) 4 0 ∷ getD (row-front z) 5 0 ∷ [])
       ∙ (λ z. ahead 0 (omega arith) z ∷ ahead 1 (omega arith) z ∷ after 0 z ∷ after 1 z ∷ after 2 z ∷ after 3 z ∷ after 4 z ∷ after 5 z ∷ [])

@@ -14,7 +14,8 @@ use Rattle.lists.proofs.PartLaws.{fill-more}
 use Rattle.lists.proofs.TabulationLaws.{getD-tab, tab-ext}
 use Rattle.cipher.specs.Lea.{keyRows}
 use Rattle.cipher.specs.Word.{add, rol, word, wordAt}
-use Rattle.cipher.specs.Schedule.{delta, deltaOf, turns, mixed, mixedFour, mixedRow, step16, row16, step24, row24, place, mixAt, step32, row32, words4, words6, words8, stepped, rowsOf, blank, filled, schedule}
+use Rattle.cipher.specs.Schedule.{delta, deltaOf, turns, mixed, mixedFour, mixedRow, step16, row16, step24, row24, place, mixAt, step32, row32, words4, words6, words8}
+use Rattle.cipher.specs.Schedule.{stepped, rowsOf, blank, filled, schedule}
 use Rattle.cipher.specs.declared.size.KeySize.{KeySize}
 use Rattle.cipher.specs.declared.size.KeySize.the-variants.{Bytes16, Bytes24, Bytes32}
 use Rattle.cipher.proofs.WordLaws.{left-word, add-word}

@@ -1,12 +1,10 @@
 -- Laws of single tables: the carry that an entry holds, how large a sum is, and each table as rows of sixteen, from codings
 -- inverted beforehand, as a builder fills it.
 use mathlib.Core.Path.{_≡_, ap, _∙_}
-use mathlib.Core.Bool.{Bool, true, false, cond}
 use Prim.Native.Nat.{ℕ, zero, suc, _+_, _*_, _/_, _%_, _≤_, _<_}
 use native.Mathlib.Omega.{arith}
 use borrow.Author.Tests.{lt-ltb, le-ltb}
 use lib.Bits.{bitXor, xor-lt}
-use lib.Dec.{ltb, lit<}
 use Rattle.lists.specs.Tabulation.{tab, chunks}
 use Rattle.lists.proofs.ChunkLaws.{tab-rows}
 use Rattle.cipher.specs.Coding.{Permutation, decode}

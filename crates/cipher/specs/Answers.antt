@@ -7,7 +7,7 @@ use lib.Dec.{eqb, leb, ltb}
 use lib.ListN.{length, getD}
 use Rattle.lists.specs.Blocks.{zeros, blockLength}
 use Rattle.lists.specs.Refusals.{first}
-use Rattle.cipher.specs.KeySize.{rounds, sizeOfKey}
+use Rattle.cipher.specs.KeySize.{rounds}
 use Rattle.cipher.specs.Lengths.{longestCode}
 use Rattle.cipher.specs.Refusal.{outcomeOf}
 use Rattle.cipher.specs.Schedule.{blank}
@@ -15,8 +15,6 @@ use Rattle.cipher.specs.Lea.{firstRounds, encipher, decipher, keyRows}
 use Rattle.cipher.specs.Chain.{setTests, chainTests}
 use Rattle.cipher.specs.declared.size.KeySize.{KeySize}
 use Rattle.cipher.specs.declared.size.KeySize.the-variants.{Bytes16, Bytes24, Bytes32}
-use Rattle.cipher.specs.declared.size.SizeFound.{SizeFound}
-use Rattle.cipher.specs.declared.size.SizeFound.the-variants.{Found, Unknown}
 use Rattle.cipher.specs.declared.answer.BlockAnswer.{BlockAnswer}
 use Rattle.cipher.specs.declared.lea.RowAnswer.{RowAnswer}
 

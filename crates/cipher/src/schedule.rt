@@ -3,7 +3,7 @@
 // step that it comes back in.
 ghost use mathlib.Core.Path.{_≡_};
 ghost use mathlib.Core.List.{[], _∷_, _++_};
-ghost use Prim.Native.Nat.{_+_, _≤_, _<_};
+ghost use Prim.Native.Nat.{_+_, _<_};
 ghost use lib.ListN.{length, getD};
 ghost use Rattle.lists.specs.Tabulation.{tab};
 ghost use Rattle.cipher.specs.KeySize.{keyLength};

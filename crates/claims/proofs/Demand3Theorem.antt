@@ -1,5 +1,5 @@
 -- Demand 3 whole: it holds for every key, chain and buffer with which a book is built, and a book is built with every key of a known
--- size, every valid chain and every buffer with room. (`PremisesMet`: the identity chain is valid.)
+-- size, every valid chain and every buffer with room. (`PremisesMet`: the identity chain is one, and so is one of which no coding is the identity.)
 use mathlib.Core.List.{List, _++_}
 use Prim.Native.Nat.{ℕ}
 use lib.ListN.{drop}

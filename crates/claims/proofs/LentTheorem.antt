@@ -4,15 +4,13 @@ use mathlib.Core.Path.{_≡_, refl, sym, ap, _∙_}
 use mathlib.Core.List.{List, _∷_}
 use Prim.Native.Nat.{ℕ}
 use Rattle.cipher.specs.Lea.{keyRows}
-use Rattle.cipher.specs.Lea.{encipher}
-use Rattle.cipher.specs.Chain.{messageSet, chainSet}
 use Rattle.cipher.specs.Answers.{keySize}
 use Rattle.driver.specs.Driver.{begunOver}
 use Rattle.driver.specs.declared.session.Session.{Session}
 use Rattle.driver.proofs.AnswerLaws.{over-done, begin-done}
 use Rattle.claims.specs.Model.{Call, Answer}
-use Rattle.claims.specs.Calls.{driverCall, run, driverAnswers, Lent, none, then, modelAnswers}
-use Rattle.claims.specs.Built.{Built, bookIn, keyRounds}
+use Rattle.claims.specs.Calls.{driverCall, run, driverAnswers, Lent, none, then}
+use Rattle.claims.specs.Built.{Built, bookIn}
 use Rattle.claims.specs.Demand3.{LentLikeModel}
 use Rattle.claims.proofs.BuiltLaws.{built-book}
 use Rattle.claims.proofs.BookPasses.{book-found}

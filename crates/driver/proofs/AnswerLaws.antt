@@ -1,7 +1,7 @@
 -- The answers of the driver, case by case. For each operation the cases exclude each other and leave none out, so each
 -- refusal is given exactly under its condition.
-use mathlib.Core.Path.{_≡_, refl, sym, ap, ap₂, _∙_}
-use mathlib.Core.Bool.{Bool, true, false, cond, not, _||_}
+use mathlib.Core.Path.{_≡_, sym, ap, ap₂, _∙_}
+use mathlib.Core.Bool.{true, false, cond, not}
 use mathlib.Core.List.{List, [], _++_, flatten}
 use Prim.Native.Nat.{ℕ, suc, _+_, _*_, _/_, _≤_, _<_}
 use native.Mathlib.Numerals.{add-one}
@@ -23,7 +23,7 @@ use Rattle.cipher.specs.Answers.{blockTests, badText, textTests, roomTests}
 use Rattle.cipher.specs.declared.size.KeySize.{KeySize}
 use Rattle.cipher.specs.declared.size.SizeFound.the-variants.{Found, Unknown}
 use Rattle.cipher.proofs.AnswerLaws.{at-most, at-most-all, block-refused, block-taken, text-known, text-refused, text-taken, room-refused, room-taken}
-use Rattle.driver.specs.Driver.{tablesTests, admitAnswer, roundsOf, runRoundAnswer, runRoundsAnswer, pass, passedFrom, sealed, sealAnswer}
+use Rattle.driver.specs.Driver.{admitAnswer, roundsOf, runRoundAnswer, runRoundsAnswer, pass, passedFrom, sealed, sealAnswer}
 use Rattle.driver.specs.Driver.{fresh, spent, moved, closed, begunOver, beginAnswer, kindTests, finishedTests, fullTests, blockAnswer, lastAnswer}
 use Rattle.driver.specs.declared.session.Session.{Session}
 use Rattle.driver.proofs.PassLaws.{rounds-known}

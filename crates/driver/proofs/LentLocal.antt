@@ -8,7 +8,7 @@ use base.Logic.{ent}
 use base.Fml.{fsep, fat}
 use prog.Wp.{Heap}
 use ghost.Atoms.{Atoms, sem}
-use types.Kit.{Given, ‵, _⊛_, ⋆, _$_, _∵_, !, qed, use1, fsplit, fjoin, fpick, fpack, frame, done}
+use types.Kit.{Given, ‵, ⋆, _$_, _∵_, !, qed, use1, fsplit, fjoin, fpick, fpack, frame, done}
 use denote.Laws.{Is, shows}
 use denote.Memory.{mem, cellAt, partOf}
 use denote.Struct.Steps.{spelt}

@@ -1,14 +1,14 @@
 -- A chain of blocks sealed one after another into a buffer: one turn of the loop, and the whole.
 use mathlib.Core.Path.{_≡_, refl, sym, ap, ap₂, _∙_}
 use mathlib.Core.List.{List, [], _∷_, _++_, flatten}
-use Prim.Native.Nat.{ℕ, zero, suc, _+_, _*_, _/_, _%_}
+use Prim.Native.Nat.{ℕ, zero, suc, _+_, _*_}
 use native.Mathlib.Numerals.{add-one}
 use native.Mathlib.Omega.{arith}
 use lib.ListN.{length, take, drop, length-append}
-use Rattle.lists.specs.Blocks.{Block, cut, blocks}
+use Rattle.lists.specs.Blocks.{cut}
 use Rattle.lists.proofs.BlockLaws.{cut-more, flatten-more}
 use Rattle.lists.proofs.PartLaws.{put-more}
-use Rattle.driver.specs.Driver.{passedFrom, pass, sealed}
+use Rattle.driver.specs.Driver.{passedFrom, pass}
 use Rattle.driver.proofs.PassLaws.{block-pass}
 
 module _ (step : List ℕ → List ℕ → List ℕ) where

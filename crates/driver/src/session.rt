@@ -1,7 +1,6 @@
 // The tag session, by value: a call gets the session and hands it back, changed where the call was
 // taken and as it was where it was refused.
 ghost use mathlib.Core.Path.{_≡_};
-ghost use Prim.Native.Nat.{_<_};
 ghost use Rattle.cipher.specs.Refusal.{numberOf};
 ghost use Rattle.lists.specs.Blocks.{zeros};
 ghost use Rattle.driver.specs.Driver as D;

@@ -1,6 +1,6 @@
 -- Laws of half bytes: how they are cut out, joined again, and go through xor; two numbers of n half bytes are equal
 -- when their half bytes are.
-use mathlib.Core.Path.{_≡_, refl, sym, ap, ap₂, _∙_}
+use mathlib.Core.Path.{_≡_, refl, ap, ap₂, _∙_}
 use Prim.Native.Nat.{ℕ, zero, suc, _+_, _*_, _/_, _%_, _^_, _<_, suc-le-suc}
 use native.Mathlib.Nat.{pow-suc, pow-succ', le-of-suc-le-suc, not-suc-le-zero, zero-lt-suc, div-div-eq-div-mul, div-one, one-le-pow, div-lt-iff-lt-mul}
 use native.Mathlib.Omega.{arith}

@@ -1,13 +1,13 @@
 -- A buffer that a loop fills from the front: what is written so far, then what it held before. One law for each way
 -- in which one turn of a loop writes more: an element, a part that was lent, an element of an array that held z.
-use mathlib.Core.Path.{_≡_, refl, sym, ap, _∙_}
+use mathlib.Core.Path.{_≡_, sym, ap, _∙_}
 use mathlib.Core.List.{List, [], _∷_, _++_, append-assoc, append-nil}
-use Prim.Native.Nat.{ℕ, zero, suc, _+_, _-_, _*_, _≤_, _<_}
+use Prim.Native.Nat.{ℕ, suc, _+_, _-_, _*_, _≤_, _<_}
 use native.Mathlib.Nat.{le-of-eq, add-sub-cancel-left}
 use native.Mathlib.Numerals.{add-one}
 use native.Mathlib.Omega.{arith}
 use lib.ListN.{length, take, drop, getD, set, replicate, length-drop, drop-of-length-le}
-use lib.Seq.{drop-cons, set-at, drop-drop, take-at, drop-at, length-take-le, append-snoc, take-suc, take-all, getD-take, getD-drop, paste, paste-suc}
+use lib.Seq.{drop-cons, set-at, drop-drop, take-at, drop-at, length-take-le, append-snoc, take-all, getD-take, getD-drop, paste, paste-suc}
 use Rattle.lists.specs.Tabulation.{tab, chunks}
 use Rattle.lists.proofs.TabulationLaws.{tab-more, length-tab, tab-is}
 use Rattle.lists.proofs.ChunkLaws.{chunks-more, length-chunks}

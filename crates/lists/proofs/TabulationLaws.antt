@@ -1,14 +1,14 @@
 -- Laws of `tab`: its length, its elements, and when two tabulations, or a tabulation and a list, are equal.
-use mathlib.Core.Path.{_≡_, refl, sym, ap, ap₂, _∙_}
+use mathlib.Core.Path.{_≡_, refl, sym, _∙_}
 use mathlib.Core.Logic.{⊎-elim}
 use mathlib.Core.List.{List, [], _∷_, _++_}
-use Prim.Native.Nat.{ℕ, zero, suc, _+_, _≤_, _<_}
-use native.Mathlib.Nat.{le-of-suc-le-suc, not-suc-le-zero, eq-or-lt-of-le, le-refl}
+use Prim.Native.Nat.{ℕ, zero, suc, _+_, _<_}
+use native.Mathlib.Nat.{le-of-suc-le-suc, not-suc-le-zero, eq-or-lt-of-le}
 use native.Mathlib.Numerals.{add-one}
 use native.Mathlib.Omega.{arith}
 use native.Mathlib.Decide.{decLt}
-use lib.ListN.{length, getD, take, replicate, length-append, List·getD-append, List·getD-eq-default}
-use lib.Seq.{getD-at, ext-getD, getD-take, length-take-le}
+use lib.ListN.{length, getD, replicate, length-append, List·getD-append, List·getD-eq-default}
+use lib.Seq.{getD-at, ext-getD}
 use Rattle.lists.specs.Tabulation.{tab}
 use Rattle.lists.specs.Blocks.{Below}
 

@@ -14,7 +14,6 @@ use Rattle.cipher.specs.Tables.{tableRound, tableRounds}
 use Rattle.cipher.specs.Chain.{Chain, chainSet, roundCodings}
 use Rattle.cipher.specs.Book.{bookRound}
 use Rattle.cipher.specs.declared.size.KeySize.{KeySize}
-use Rattle.cipher.specs.declared.size.SizeFound.the-variants.{Found}
 use Rattle.cipher.proofs.KeySizeLaws.{size-of-key, rounds-le, rounds-more}
 use Rattle.cipher.proofs.InverseLaws.{length-inverted, decoded-inverted, low-inverted}
 use Rattle.cipher.proofs.BookLaw.{round-size}

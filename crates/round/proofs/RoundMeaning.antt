@@ -5,8 +5,8 @@ use mathlib.Core.List.{List, [], _++_}
 use Prim.Native.Nat.{ℕ, _≤_, _<_}
 use native.Mathlib.Nat.{le-refl}
 use native.Mathlib.Omega.{arith}
-use lib.ListN.{length, getD, drop}
-use Rattle.cipher.specs.KeySize.{rounds, chainLength, sizeOfKey}
+use lib.ListN.{getD, drop}
+use Rattle.cipher.specs.KeySize.{rounds, chainLength}
 use Rattle.cipher.specs.Lea.{keyRows}
 use Rattle.cipher.specs.Lea.{firstRounds, encipher}
 use Rattle.cipher.specs.Coding.{decoded}
@@ -14,7 +14,6 @@ use Rattle.cipher.specs.Tables.{RoundTables}
 use Rattle.cipher.specs.Chain.{Chain, chainSet, roundCodings}
 use Rattle.cipher.specs.Book.{bookRound}
 use Rattle.cipher.specs.declared.size.KeySize.{KeySize}
-use Rattle.cipher.specs.declared.size.SizeFound.the-variants.{Found}
 use Rattle.cipher.proofs.KeySizeLaws.{rounds-more}
 use Rattle.cipher.proofs.RoundsLaw.{rounds-law}
 use Rattle.cipher.proofs.ChainTests.{valid-round}

@@ -8,7 +8,7 @@ use lib.Bits.{bitXor, xor-lt}
 use lib.Dec.{lit<}
 use lib.ListN.{length, getD, drop, length-drop}
 use lib.Seq.{getD-drop}
-use Rattle.lists.specs.Tabulation.{tab, chunks}
+use Rattle.lists.specs.Tabulation.{tab}
 use Rattle.lists.specs.Blocks.{Below}
 use Rattle.lists.specs.HalfBytes.{halfByte}
 use Rattle.lists.proofs.TabulationLaws.{length-tab, getD-tab}

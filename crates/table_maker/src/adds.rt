@@ -1,8 +1,8 @@
 // Add tables (01's term), from inverted codings.
 ghost use mathlib.Core.Path.{_≡_};
-ghost use Prim.Native.Nat.{ℕ, _+_, _*_, _/_, _%_, _<_, _≤_};
+ghost use Prim.Native.Nat.{_+_, _*_, _/_, _%_, _<_, _≤_};
 ghost use lib.Bits.{bitXor};
-ghost use lib.ListN.{length, getD};
+ghost use lib.ListN.{length};
 ghost use Rattle.cipher.specs.Lengths.{addLength, addsLength, setLength};
 ghost use Rattle.lists.specs.Tabulation.{tab, chunks};
 ghost use Rattle.lists.specs.Blocks.{Below};

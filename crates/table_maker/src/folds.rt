@@ -1,7 +1,7 @@
 // Fold tables (01's term), from inverted codings.
 ghost use mathlib.Core.Path.{_≡_};
 ghost use Prim.Native.Nat.{_+_, _*_, _/_, _%_, _<_, _≤_};
-ghost use lib.ListN.{length, getD};
+ghost use lib.ListN.{length};
 ghost use Rattle.cipher.specs.Lengths.{foldLength, groupLength, setLength};
 ghost use Rattle.lists.specs.Tabulation.{chunks};
 ghost use Rattle.lists.specs.Blocks.{Below};

@@ -7,7 +7,6 @@ use native.Mathlib.Numerals.{add-one}
 use native.Mathlib.Omega.{arith}
 use borrow.Author.Count.{below-more}
 use lib.ListN.{getD, length}
-use Rattle.lists.specs.Tabulation.{tab}
 use Rattle.lists.proofs.TabulationLaws.{tab-is, getD-tab}
 use Rattle.cipher.specs.Coding.{blockHalf}
 use Rattle.cipher.specs.Tables.{addAt, carryAt, sumAt}

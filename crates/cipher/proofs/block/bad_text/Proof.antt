@@ -1,5 +1,5 @@
 -- `block::bad_text` meets its contract.
-use mathlib.Core.Path.{sym, _∙_}
+use mathlib.Core.Path.{sym}
 use Rattle.cipher.proofs.AnswerLaws.{text-empty, text-long, text-left}
 use Rattle.cipher.proofs.block.bad_text.Statement.{statement}
 use Rattle.cipher.proofs.block.bad_text.Tie as tie

@@ -2,10 +2,10 @@
 -- enciphered, 4 q rounds are done.
 use mathlib.Core.Path.{_≡_, refl, sym, ap, _∙_}
 use mathlib.Core.List.{List, []}
-use Prim.Native.Nat.{ℕ, _+_, _*_, _/_, _-_, _≤_, _<_}
+use Prim.Native.Nat.{ℕ, _+_, _*_, _/_, _-_, _≤_}
 use native.Mathlib.Omega.{arith}
 use borrow.Author.Needs.{needs}
-use lib.ListN.{getD, length, drop, length-drop}
+use lib.ListN.{getD, drop, length-drop}
 use Rattle.lists.specs.Blocks.{Bytes, zeros, cut}
 use Rattle.lists.proofs.PartLaws.{part-end}
 use Rattle.lists.proofs.BlockLaws.{bytes-of, bytes-drop, block-zeros}

@@ -50,4 +50,7 @@ returns-4 c =
     (c .before .encipher .ensures) (t .key-rows .ensures) (c .before .before .words2 .ensures) (sym (at-most-all n _ (omega arith)))
 
 pub first-rounds-spec : {M : Type 1} → statement M
-first-rounds-spec = tie.close (tie.spec (λ c κs. search needs) (λ c. search needs) (λ c. search needs) (λ c κs. search needs) returns (λ c κs. search needs) returns-2 key-rows-requires (λ c κs. search needs) (λ c κs. search needs) first-rounds-requires (λ c κs. search needs) returns-3 (λ c κs. search needs) (λ c κs. search needs) (λ c κs. search needs) returns-4)
+first-rounds-spec = tie.close (tie.spec
+    (λ c κs. search needs) (λ c. search needs) (λ c. search needs) (λ c κs. search needs) returns (λ c κs. search needs)
+    returns-2 key-rows-requires (λ c κs. search needs) (λ c κs. search needs) first-rounds-requires (λ c κs. search needs)
+    returns-3 (λ c κs. search needs) (λ c κs. search needs) (λ c κs. search needs) returns-4)

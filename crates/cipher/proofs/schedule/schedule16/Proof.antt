@@ -27,8 +27,12 @@ loop-again c =
     let h = c .before .before .before .loop in
     let t₀ = c .before .before .before .before .words .result in
     let u = c .before .mixed-four .result in
-    let p = step16-front (h .i) (h .d) t₀ (h .t) u (h .inv .1) (h .inv .2) (c .before .mixed-four .ensures) in
-    (omega arith, deltas-more 3 (h .i) (c .rotate-left .result) (h .d) (h .inv .1) (c .rotate-left .ensures), p, stored step16 row16 (h .i) t₀ (h .rows) (row16 (h .i) u) (omega arith) (h .inv .3) (ap (row16 (h .i)) p))
+    let p = step16-front (h .i) (h .d) t₀ (h .t) u (h .inv .1) (h .inv .2) (c .before .mixed-four .ensures) in (
+      omega arith,
+      deltas-more 3 (h .i) (c .rotate-left .result) (h .d) (h .inv .1) (c .rotate-left .ensures),
+      p,
+      stored step16 row16 (h .i) t₀ (h .rows) (row16 (h .i) u) (omega arith) (h .inv .3) (ap (row16 (h .i)) p),
+    )
 
 returns : tie.Need-returns Inv-loop μ-loop
 returns c =
@@ -37,4 +41,8 @@ returns c =
     h .loop .inv .3 ∙ ap₂ (λ (n : ℕ) (t : List ℕ). filled step16 row16 n t) e (h .before .words .ensures)
 
 pub schedule16-spec : {M : Type 1} → statement M
-schedule16-spec = tie.close (tie.spec Inv-loop μ-loop (λ c κs. search needs) loop-holds (λ c. search needs) (λ c κs. search needs) (λ c. search needs) (λ c. search needs) (λ c. search needs) (λ c. search needs) (λ c. search needs) (λ c. search needs) (λ c. search needs) (λ c. search needs) (λ c. search needs) (λ c. search needs) (λ c. search needs) (λ c. search needs) (λ c κs. search needs) (λ c. search needs) (λ c. search needs) loop-again returns)
+schedule16-spec = tie.close (tie.spec
+    Inv-loop μ-loop (λ c κs. search needs) loop-holds (λ c. search needs) (λ c κs. search needs) (λ c. search needs)
+    (λ c. search needs) (λ c. search needs) (λ c. search needs) (λ c. search needs) (λ c. search needs) (λ c. search needs)
+    (λ c. search needs) (λ c. search needs) (λ c. search needs) (λ c. search needs) (λ c. search needs)
+    (λ c κs. search needs) (λ c. search needs) (λ c. search needs) loop-again returns)

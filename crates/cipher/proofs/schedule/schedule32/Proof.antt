@@ -47,4 +47,7 @@ returns c =
     h .loop .inv .3 ∙ ap₂ (λ (n : ℕ) (t : List ℕ). filled step32 row32 n t) e (h .before .words8 .ensures)
 
 pub schedule32-spec : {M : Type 1} → statement M
-schedule32-spec = tie.close (tie.spec Inv-loop μ-loop (λ c κs. search needs) loop-holds (λ c. search needs) (λ c κs. search needs) (λ c κs. search needs) (λ c. search needs) (λ c. search needs) (λ c κs. search needs) (λ c κs. search needs) (λ c. search needs) (λ c. search needs) loop-again returns)
+schedule32-spec = tie.close (tie.spec
+    Inv-loop μ-loop (λ c κs. search needs) loop-holds (λ c. search needs) (λ c κs. search needs) (λ c κs. search needs)
+    (λ c. search needs) (λ c. search needs) (λ c κs. search needs) (λ c κs. search needs) (λ c. search needs)
+    (λ c. search needs) loop-again returns)

@@ -13,4 +13,6 @@ unfolding tab
 returns c = ap (λ (x : ℕ). tab 7 (λ k. getD (c .before .args .t1) (k + 1) 0) ++ (x ∷ [])) (c .rotate-left .ensures)
 
 pub turned-spec : {M : Type 1} → statement M
-turned-spec = tie.close (tie.spec (λ c. search needs) (λ c κs. search needs) (λ c. search needs) (λ c. search needs) (λ c. search needs) (λ c. search needs) (λ c. search needs) (λ c. search needs) (λ c. search needs) returns)
+turned-spec = tie.close (tie.spec
+    (λ c. search needs) (λ c κs. search needs) (λ c. search needs) (λ c. search needs) (λ c. search needs)
+    (λ c. search needs) (λ c. search needs) (λ c. search needs) (λ c. search needs) returns)

@@ -3,7 +3,6 @@ use mathlib.Core.Path.{_≡_, sym, ap, _∙_}
 use native.Mathlib.Omega.{arith}
 use borrow.Author.Needs.{needs}
 use lib.ListN.{length}
-use Rattle.cipher.specs.Answers.{badText}
 use Rattle.cipher.proofs.AnswerLaws.{text-known}
 use Rattle.cipher.specs.Refusal.{numberOf}
 use Rattle.cipher.specs.declared.size.SizeFound.the-variants.{Found, Unknown}

@@ -1,9 +1,6 @@
 -- `text::refused` meets its contract.
-use Prim.Native.Nat.{ℕ, _≤_}
 use native.Mathlib.Omega.{arith}
 use borrow.Author.Needs.{needs}
-use lib.ListN.{length}
-use Rattle.round.specs.Text.{decimal}
 use Rattle.round.proofs.TextLaws.{decimal-ten, refused-is}
 use Rattle.round.proofs.text.refused.Statement.{statement}
 use Rattle.round.proofs.text.refused.Tie as tie

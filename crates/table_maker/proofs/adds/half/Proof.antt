@@ -1,5 +1,4 @@
 -- `adds::half` meets its contract.
-use mathlib.Core.Path.{_≡_, _∙_}
 use native.Mathlib.Omega.{arith}
 use borrow.Author.Needs.{needs}
 use Rattle.table_maker.proofs.RowLaws.{half-shift}

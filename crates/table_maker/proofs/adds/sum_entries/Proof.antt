@@ -1,10 +1,9 @@
 -- `adds::sum_entries` meets its contract. The invariant: s entries are written.
-use mathlib.Core.Path.{_≡_, refl, sym, ap, _∙_}
-use mathlib.Core.List.{_++_}
-use Prim.Native.Nat.{ℕ, _+_, _*_, _/_, _%_, _-_, _≤_}
+use mathlib.Core.Path.{refl, ap, _∙_}
+use Prim.Native.Nat.{ℕ, _+_, _*_, _%_, _-_}
 use native.Mathlib.Omega.{arith}
 use borrow.Author.Needs.{needs}
-use lib.ListN.{replicate, getD}
+use lib.ListN.{getD}
 use Rattle.cipher.specs.Tables.{addEntry}
 use Rattle.lists.specs.Tabulation.{tab}
 use Rattle.table_maker.proofs.RowLaws.{Filled, fill-next, fill-done}
