@@ -1,5 +1,5 @@
 -- Lengths in bytes that are the same for all key sizes, each by one name: of the parts of a chain (document 01, "Chain of codings"), of
--- the parts of a book ("Book"), and what refusal 8 allows ("Refusals from the input"). A block's is in `lists`.
+-- the parts of a book ("Book"), and what refusal 8 allows ("Refusals from the input"). A block's is in `lists`.  docs/FORMAT.md shows where they stand.
 use Prim.Native.Nat.{ℕ, _+_, _*_}
 
 -- the longest message, and the most bytes that are sealed or opened
