@@ -16,7 +16,7 @@ const LAST: usize = lengths::BLOCK - 1;
 // Whether the last v bytes of a block are all v.
 fn ends_with(b: [u8; 16], v: usize) -> bool
     requires { ⌜ v ≤ blockLength ⌝ }
-    ensures { λ r. ⌜ r ≡ every v (λ k. eqb (getD b (16 - v + k) 0) v) ⌝ }
+    ensures { λ r. ⌜ r ≡ every v (λ k. eqb (getD b (blockLength - v + k) 0) v) ⌝ }
 {
     for k in 0..v {
         if wide(b[lengths::BLOCK - v + k]) != v {

@@ -2,7 +2,7 @@
 ghost use mathlib.Core.Path.{_≡_};
 ghost use Prim.Native.Nat.{_+_, _*_, _<_, _≤_};
 ghost use lib.ListN.{length};
-ghost use Rattle.cipher.specs.Lengths.{setLength};
+ghost use Rattle.cipher.specs.Lengths.{setLength, startLength, groupLength};
 ghost use Rattle.lists.specs.Tabulation.{chunks};
 ghost use Rattle.lists.specs.Blocks.{zeros};
 ghost use Rattle.cipher.specs.Coding.{FirstPermutations, setOf, coded};
@@ -23,7 +23,7 @@ fn start_byte(low: u8, high: u8) -> u8
 
 // The start: the zero block coded by the set in the front of last.
 pub fn start(last: &[u8], out: &mut [u8])
-    requires { ⌜ FirstPermutations 32 (now last) × (setLength ≤ length (now last)) × (length (now out) ≡ 16) ⌝ }
+    requires { ⌜ FirstPermutations 32 (now last) × (setLength ≤ length (now last)) × (length (now out) ≡ startLength) ⌝ }
     ensures { λ _. ⌜ now (out .exit) ≡ coded (setOf (now (last .entry))) zeros ⌝ }
 {
     for k in 0..lengths::START {
@@ -35,7 +35,7 @@ pub fn start(last: &[u8], out: &mut [u8])
 // The three groups: folds from the set in the front of last and the message set to that in the
 // front of first, under no key, K1 and K2.
 pub fn groups(last: &[u8], message: &[u8], first: &[u8], keys: SubkeyPair, out: &mut [u8])
-    requires { ⌜ FirstPermutations 32 (now last) × (setLength ≤ length (now last)) × FirstPermutations 32 (now message) × (setLength ≤ length (now message)) × (setLength ≤ length (now first)) × (length (now out) ≡ 24576) ⌝ }
+    requires { ⌜ FirstPermutations 32 (now last) × (setLength ≤ length (now last)) × FirstPermutations 32 (now message) × (setLength ≤ length (now message)) × (setLength ≤ length (now first)) × (length (now out) ≡ 3 * groupLength) ⌝ }
     ensures { λ _. ⌜ now (out .exit) ≡ chunks 3 (λ g. groupPart (setOf (now (last .entry))) (setOf (now (message .entry))) (setOf (now (first .entry))) (threeKeys (keys .k1) (keys .k2) g)) ⌝ }
 {
     let mut s = [0u8; lengths::SET];

@@ -78,4 +78,4 @@ decoded S b = ofHalves (λ w j. decode (S w j) (blockHalf b w j))
 
 -- the first n codings in s inverted, each in its place: what it sends to v stands at v
 unfoldable pub inverted : ℕ → List ℕ → List ℕ
-inverted n s = chunks n (λ k. tab 16 (decode (codingAt s k)))
+inverted n s = chunks n (λ k. tab codingLength (decode (codingAt s k)))

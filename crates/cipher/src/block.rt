@@ -47,7 +47,7 @@ pub fn put_block(d: &mut [u8], at: usize, b: [u8; 16])
 
 // Byte k of a block, x, coded: codings 2k and 2k + 1 serve its halves.
 fn code_byte(set: &[u8], k: usize, x: u8) -> u8
-    requires { ⌜ (k < 16) × (setLength ≤ length (now set)) × LowSet (now set) ⌝ }
+    requires { ⌜ (k < blockLength) × (setLength ≤ length (now set)) × LowSet (now set) ⌝ }
     ensures { λ r. ⌜ r ≡ byteCoded (now (set .entry)) k x ⌝ }
 {
     let at = 2 * lengths::CODING * k;

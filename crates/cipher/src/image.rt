@@ -3,6 +3,7 @@
 ghost use mathlib.Core.Path.{_≡_};
 ghost use Prim.Native.Nat.{_+_, _*_, _≤_, _<_};
 ghost use lib.ListN.{length};
+ghost use Rattle.lists.specs.Blocks.{blockLength};
 ghost use Rattle.cipher.specs.Lengths.{imagesLength, setLength};
 ghost use Rattle.lists.specs.Tabulation.{tab};
 ghost use Rattle.cipher.specs.Coding.{LowSet, byteCoded};
@@ -12,7 +13,7 @@ use crate::lengths;
 
 // What the sixteen bytes whose high half is h become at place k.
 fn image_row(set: &[u8], k: usize, h: usize, out: &mut [u8])
-    requires { ⌜ (k < 16) × (h < 16) × (setLength ≤ length (now set)) × LowSet (now set) × (length (now out) ≡ 16) ⌝ }
+    requires { ⌜ (k < blockLength) × (h < 16) × (setLength ≤ length (now set)) × LowSet (now set) × (length (now out) ≡ 16) ⌝ }
     ensures { λ _. ⌜ now (out .exit) ≡ tab 16 (λ l. byteCoded (now (set .entry)) k (16 * h + l)) ⌝ }
 {
     let at = 2 * lengths::CODING * k;
@@ -42,7 +43,7 @@ pub fn images(set: &[u8], out: &mut [u8])
 
 // One block coded by such a table.
 pub fn look_up(images: &[u8], block: &[u8], out: &mut [u8])
-    requires { ⌜ (length (now images) ≡ imagesLength) × (length (now block) ≡ 16) × (length (now out) ≡ 16) ⌝ }
+    requires { ⌜ (length (now images) ≡ imagesLength) × (length (now block) ≡ blockLength) × (length (now out) ≡ blockLength) ⌝ }
     ensures { λ _. ⌜ now (out .exit) ≡ imaged (now (images .entry)) (now (block .entry)) ⌝ }
 {
     for k in 0..lengths::BLOCK {

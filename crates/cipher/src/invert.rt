@@ -17,8 +17,8 @@ pub fn wide(x: u8) -> usize
 
 // Coding k of a slice inverted: at the image of v stands v.
 fn invert_one(codings: &[u8], k: usize, out: &mut [u8])
-    requires { ⌜ (codingLength * k + codingLength ≤ length (now codings)) × (length (now out) ≡ 16) × Permutation (codingAt (now codings) k) ⌝ }
-    ensures { λ _. ⌜ now (out .exit) ≡ tab 16 (decode (codingAt (now (codings .entry)) k)) ⌝ }
+    requires { ⌜ (codingLength * k + codingLength ≤ length (now codings)) × (length (now out) ≡ codingLength) × Permutation (codingAt (now codings) k) ⌝ }
+    ensures { λ _. ⌜ now (out .exit) ≡ tab codingLength (decode (codingAt (now (codings .entry)) k)) ⌝ }
 {
     for v in 0..lengths::VALUES {
         let image = wide(codings[lengths::CODING * k + v]);

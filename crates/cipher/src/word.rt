@@ -2,6 +2,7 @@
 ghost use mathlib.Core.Path.{_≡_};
 ghost use Prim.Native.Nat.{_+_, _*_, _≤_};
 ghost use lib.ListN.{length};
+ghost use Rattle.lists.specs.Blocks.{blockLength};
 ghost use Rattle.cipher.specs.Word as W;
 ghost use Rattle.cipher.specs.Schedule.{words4};
 ghost use Rattle.cipher.specs.Lea as L;
@@ -39,7 +40,7 @@ pub fn word_at(s: &[u8], i: usize) -> u32
 
 // The four words of the 16 bytes of s.
 pub fn words(s: &[u8]) -> [u32; 4]
-    requires { ⌜ 16 ≤ length (now s) ⌝ }
+    requires { ⌜ blockLength ≤ length (now s) ⌝ }
     ensures { λ r. ⌜ r ≡ words4 (now (s .entry)) ⌝ }
 {
     [word_at(s, 0), word_at(s, 4), word_at(s, 8), word_at(s, 12)]

@@ -16,7 +16,7 @@ use Rattle.cipher.specs.Book.{bookOf}
 use Rattle.cipher.specs.declared.size.KeySize.{KeySize}
 use Rattle.cipher.specs.declared.size.SizeFound.the-variants.{Found}
 use Rattle.cipher.proofs.ChainPartLaws.{message-read, set-read, middle-read, mask-read, from-valid}
-use Rattle.claims.specs.Identity.{identityChain, shifted, shiftAt, shiftedChain}
+use Rattle.claims.specs.Identity.{identityChain, shift, shiftAt, shiftedChain}
 use Rattle.claims.specs.Built.{Built}
 use Rattle.claims.proofs.BuiltLaws.{any-built}
 
@@ -38,7 +38,7 @@ identity-valid z =
       firsts = λ l i hl hi. refl;
     })
 
-shifted-permutes : (k : ℕ) → Permutation (shifted k)
+shifted-permutes : (k : ℕ) → Permutation (shift k)
 shifted-permutes k = record { low = λ i l. omega arith; once = λ i m l n e. omega arith }
 
 mask-bit : (b : Bool) → cond b 0 1 < 2
@@ -53,7 +53,7 @@ shifted-valid z =
       message = λ w j hw hj. shifted-permutes (shiftAt 0 w j);
       sets = λ l hl w j hw hj. shifted-permutes (shiftAt l w j);
       middles = λ l i j hl hi hj. shifted-permutes (shiftAt l i j);
-      word3 = λ l hl j v hj hv. ap (λ (k : ℕ). shifted (k + j) v) (omega arith);
+      word3 = λ l hl j v hj hv. ap (λ (k : ℕ). shift (k + j) v) (omega arith);
       bits = λ l k hl hk. mask-bit (eqb (k % 8) 0);
       firsts = λ l i hl hi. ap (λ (b : Bool). cond b 0 1) (eq-eqb (8 * i % 8) 0 (omega arith));
     })
@@ -64,7 +64,7 @@ module _ (z : KeySize) where
   abbrev r : ℕ
   r = rounds z
 
-  moves : (x k : ℕ) → x ≡ shifted k 0 → k < 15 → x ≡ 0 → ⊥
+  moves : (x k : ℕ) → x ≡ shift k 0 → k < 15 → x ≡ 0 → ⊥
   moves x k e h d = omega arith
 
   pub message-moves : (w j : ℕ) → w < 4 → j < 8 → messageSet (shiftedChain z) w j 0 ≡ 0 → ⊥

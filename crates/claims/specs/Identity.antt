@@ -13,8 +13,8 @@ unfoldable pub identityChain : KeySize → List ℕ
 identityChain z = chainFrom (rounds z) (λ w j v. v) (λ l w j v. v) (λ l i j v. v) (λ l k. 0)
 
 -- a coding that adds k + 1, mod 16, for k below 15
-abbrev pub shifted : ℕ → ℕ → ℕ
-shifted k v = (v + k + 1) % 16
+abbrev pub shift : ℕ → ℕ → ℕ
+shift k v = (v + k + 1) % 16
 
 -- how far the coding of half byte j of word w shifts in set l: word 3 of a set as far as word 0 of the set before it
 abbrev pub shiftAt : ℕ → ℕ → ℕ → ℕ
@@ -23,5 +23,5 @@ shiftAt l w j = (l + w) % 4 + j
 -- every coding shifts, by its place, and all masks are set but those that must be 0
 unfoldable pub shiftedChain : KeySize → List ℕ
 shiftedChain z =
-    chainFrom (rounds z) (λ w j. shifted (shiftAt 0 w j)) (λ l w j. shifted (shiftAt l w j)) (λ l i j. shifted (shiftAt l i j))
+    chainFrom (rounds z) (λ w j. shift (shiftAt 0 w j)) (λ l w j. shift (shiftAt l w j)) (λ l i j. shift (shiftAt l i j))
     (λ l k. cond (eqb (k % 8) 0) 0 1)

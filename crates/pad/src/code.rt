@@ -3,6 +3,7 @@
 // written.
 ghost use mathlib.Core.Path.{_≡_};
 ghost use Prim.Native.Nat.{_+_, _≤_, _<_};
+ghost use Rattle.lists.specs.Blocks.{blockLength};
 ghost use Rattle.lists.specs.Refusals.{first};
 ghost use Rattle.cipher.specs.Refusal.{outcomeOf, writtenOf};
 ghost use Rattle.pad.specs.Padding.{kindOf, tagAdded};
@@ -24,7 +25,7 @@ pub enum TagCode {
 // What both codings refuse: the set (2, 3), a message of n bytes (8), the room for it and the
 // added bytes (9).
 fn admit(u: &[u8], n: usize, added: usize, room: usize) -> Outcome
-    requires { ⌜ added ≤ 16 ⌝ }
+    requires { ⌜ added ≤ blockLength ⌝ }
     ensures { λ r. ⌜ outcomeOf r ≡ first (codingTests (now (u .entry)) n (n + added) room) (λ q. q) 0 ⌝ }
 {
     let checked = check_set(u);
@@ -79,7 +80,7 @@ pub fn code_for_sealing(u: &[u8], message: &[u8], out: &mut [u8]) -> Written
     if let Outcome::Refused(why) = admit(u, n, added, out.len()) {
         return Written::Refused(why);
     }
-    let tail = [narrow(added); 16];
+    let tail = [narrow(added); lengths::BLOCK];
     code_text(u, message, &tail[0..added], out);
     Written::Bytes(n + added)
 }

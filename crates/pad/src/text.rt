@@ -3,6 +3,7 @@ ghost use mathlib.Core.Path.{_≡_};
 ghost use mathlib.Core.List.{_++_};
 ghost use Prim.Native.Nat.{_+_, _*_, _≤_};
 ghost use lib.ListN.{length, take, drop};
+ghost use Rattle.lists.specs.Blocks.{blockLength};
 ghost use Rattle.cipher.specs.Lengths.{imagesLength, setLength};
 ghost use Rattle.cipher.specs.Coding.{LowSet, byteCoded};
 ghost use Rattle.cipher.specs.Images.{imageAt};
@@ -14,8 +15,8 @@ use cipher::lengths;
 
 // The first n blocks of a text coded into the front of out.
 fn code_blocks(images: &[u8], text: &[u8], n: usize, out: &mut [u8])
-    requires { ⌜ (length (now images) ≡ imagesLength) × (n * 16 ≤ length (now text)) × (length (now text) ≤ length (now out)) ⌝ }
-    ensures { λ _. ⌜ now (out .exit) ≡ codedPart (imageAt (now (images .entry))) 0 (take (n * 16) (now (text .entry))) ++ drop (n * 16) (now (out .entry)) ⌝ }
+    requires { ⌜ (length (now images) ≡ imagesLength) × (n * blockLength ≤ length (now text)) × (length (now text) ≤ length (now out)) ⌝ }
+    ensures { λ _. ⌜ now (out .exit) ≡ codedPart (imageAt (now (images .entry))) 0 (take (n * blockLength) (now (text .entry))) ++ drop (n * blockLength) (now (out .entry)) ⌝ }
 {
     let mut a: usize = 0;
     for k in 0..n {

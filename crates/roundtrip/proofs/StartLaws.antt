@@ -29,7 +29,7 @@ use Rattle.cipher.proofs.BookLaw.{book-size}
 use Rattle.cipher.proofs.CheckLaws.{Numbered, told-refused}
 use Rattle.book.specs.Answers.{builtInto, buildAnswer}
 use Rattle.claims.specs.Built.{Built, bookIn, keyRounds, archiveSet}
-use Rattle.roundtrip.specs.Roundtrips.{keyBook, over, buildTests}
+use Rattle.roundtrip.specs.Roundtrips.{keyBook, over, buildCallTests}
 use Rattle.roundtrip.specs.Steps.{startTold, startAnswer}
 use Rattle.roundtrip.specs.declared.start.Started.{Started}
 use Rattle.roundtrip.specs.declared.start.Started.the-variants as S
@@ -52,14 +52,14 @@ is-told (Found z) = 1
 is-told Unknown = 0
 
 module _ (key ch bk : List ℕ) where
-  pub build-numbered : Numbered (buildTests key ch bk)
+  pub build-numbered : Numbered (buildCallTests key ch bk)
   unfolding chainTests
   build-numbered = (lit< tt, (lit< tt, (lit< tt, (lit< tt, (lit< tt, (lit< tt, tt))))))
 
-  answer-is : buildAnswer key ch bk ≡ first (buildTests key ch bk) (λ q. (q, bk)) (0, over (keyBook key ch) bk)
+  answer-is : buildAnswer key ch bk ≡ first (buildCallTests key ch bk) (λ q. (q, bk)) (0, over (keyBook key ch) bk)
   unfolding builtInto
   answer-is =
-      ap (λ (n : ℕ). first (buildTests key ch bk) (λ q. (q, bk)) (0, keyBook key ch ++ drop n bk)) (sym (book-size (keyRounds key) (keyRows (keySize key) key) ch))
+      ap (λ (n : ℕ). first (buildCallTests key ch bk) (λ q. (q, bk)) (0, keyBook key ch ++ drop n bk)) (sym (book-size (keyRounds key) (keyRows (keySize key) key) ch))
 
   -- building gave r, and held is what the buffer then holds
   module _ (held : List ℕ) (r : Outcome) (e : (outcomeOf r, held) ≡ buildAnswer key ch bk) where
@@ -69,9 +69,9 @@ module _ (key ch bk : List ℕ) where
         ap (λ (y : ℕ × List ℕ). ((numberOf q, Bytes16), y .1)) (e ∙ answer-is ∙ alike (λ q. (q, bk)) (0, over (keyBook key ch) bk))
         ∙ sym (alike (λ q. ((q, Bytes16), bk)) ((0, keySize key), over (keyBook key ch) bk))
       where
-        alike : {B : Type 0} (other : ℕ → B) (done : B) → first (buildTests key ch bk) other done ≡ other (numberOf q)
+        alike : {B : Type 0} (other : ℕ → B) (done : B) → first (buildCallTests key ch bk) other done ≡ other (numberOf q)
         alike other done =
-            refused-alike (λ (y : ℕ × List ℕ). y .0) (λ q. (q, bk)) (λ q. refl) (0, over (keyBook key ch) bk) refl other done (buildTests key ch bk) q
+            refused-alike (λ (y : ℕ × List ℕ). y .0) (λ q. (q, bk)) (λ q. refl) (0, over (keyBook key ch) bk) refl other done (buildCallTests key ch bk) q
             (ap (λ (y : ℕ × List ℕ). y .0) (sym (e ∙ answer-is)) ∙ ap outcomeOf d)
 
     module _ (d : r ≡ Done) where
@@ -87,16 +87,16 @@ module _ (key ch bk : List ℕ) where
       pub start-done : (z : KeySize) → sizeOfKey (length key) ≡ Found z → ((0, z), held) ≡ startAnswer key ch bk
       unfolding startAnswer size-told
       start-done z f =
-          let t = not-refused (λ (y : ℕ × List ℕ). y .0) (λ q. (q, bk)) (λ q. refl) (0, over (keyBook key ch) bk) (buildTests key ch bk) build-numbered
+          let t = not-refused (λ (y : ℕ × List ℕ). y .0) (λ q. (q, bk)) (λ q. refl) (0, over (keyBook key ch) bk) (buildCallTests key ch bk) build-numbered
           (ap (λ (y : ℕ × List ℕ). y .0) (sym answer-is ∙ built)) in
           let s : z ≡ keySize key = ap size-told (sym f ∙ built-size key ch bk held built) in
           (λ i. ((0, s i), ((e ∙ answer-is ∙ t .1) i) .1))
-          ∙ sym (first-clear (buildTests key ch bk) (λ q. ((q, Bytes16), bk)) ((0, keySize key), over (keyBook key ch) bk) (t .0))
+          ∙ sym (first-clear (buildCallTests key ch bk) (λ q. ((q, Bytes16), bk)) ((0, keySize key), over (keyBook key ch) bk) (t .0))
 
   -- after it: r is what it gives and held what the buffer then holds
   module _ (held : List ℕ) (r : Started) (e : (startTold r, held) ≡ startAnswer key ch bk) where
     answer : (ℕ × KeySize) × List ℕ
-    answer = first (buildTests key ch bk) (λ q. ((q, Bytes16), bk)) ((0, keySize key), over (keyBook key ch) bk)
+    answer = first (buildCallTests key ch bk) (λ q. ((q, Bytes16), bk)) ((0, keySize key), over (keyBook key ch) bk)
 
     told : (startTold r, held) ≡ answer
     unfolding startAnswer answer
@@ -105,26 +105,26 @@ module _ (key ch bk : List ℕ) where
     number-of : (n : ℕ × KeySize) → startTold r ≡ n → answer .0 .0 ≡ n .0
     number-of n d = ap (λ (y : (ℕ × KeySize) × List ℕ). y .0 .0) (sym told) ∙ ap (λ (y : ℕ × KeySize). y .0) d
 
-    pub way-refused : {A : Type 0} (refuse : List ℕ → ℕ → A) (go : A) (q : Refusal) → r ≡ S.Refused q → refuse held (numberOf q) ≡ first (buildTests key ch bk) (refuse bk) go
+    pub way-refused : {A : Type 0} (refuse : List ℕ → ℕ → A) (go : A) (q : Refusal) → r ≡ S.Refused q → refuse held (numberOf q) ≡ first (buildCallTests key ch bk) (refuse bk) go
     unfolding answer
     way-refused refuse go q d =
         ap (λ (y : (ℕ × KeySize) × List ℕ). refuse (y .1) (numberOf q)) (told ∙ alike (λ q. ((q, Bytes16), bk)) ((0, keySize key), over (keyBook key ch) bk))
         ∙ sym (alike (refuse bk) go)
       where
-        alike : {B : Type 0} (other : ℕ → B) (done : B) → first (buildTests key ch bk) other done ≡ other (numberOf q)
+        alike : {B : Type 0} (other : ℕ → B) (done : B) → first (buildCallTests key ch bk) other done ≡ other (numberOf q)
         alike other done =
             refused-alike (λ (y : (ℕ × KeySize) × List ℕ). y .0 .0) (λ q. ((q, Bytes16), bk)) (λ q. refl) ((0, keySize key), over (keyBook key ch) bk) refl
-            other done (buildTests key ch bk) q (number-of (numberOf q, Bytes16) (ap startTold d))
+            other done (buildCallTests key ch bk) q (number-of (numberOf q, Bytes16) (ap startTold d))
 
     module _ (z : KeySize) (d : r ≡ S.Built z) where
-      clear : Clear (buildTests key ch bk) × (answer ≡ ((0, keySize key), over (keyBook key ch) bk))
+      clear : Clear (buildCallTests key ch bk) × (answer ≡ ((0, keySize key), over (keyBook key ch) bk))
       unfolding answer
       clear =
           not-refused (λ (y : (ℕ × KeySize) × List ℕ). y .0 .0) (λ q. ((q, Bytes16), bk)) (λ q. refl) ((0, keySize key), over (keyBook key ch) bk)
-          (buildTests key ch bk) build-numbered (number-of (0, z) (ap startTold d))
+          (buildCallTests key ch bk) build-numbered (number-of (0, z) (ap startTold d))
 
-      pub way-done : {A : Type 0} (refuse : ℕ → A) (go : A) → first (buildTests key ch bk) refuse go ≡ go
-      way-done refuse go = first-clear (buildTests key ch bk) refuse go (clear .0)
+      pub way-done : {A : Type 0} (refuse : ℕ → A) (go : A) → first (buildCallTests key ch bk) refuse go ≡ go
+      way-done refuse go = first-clear (buildCallTests key ch bk) refuse go (clear .0)
 
       pub held-is : held ≡ over (keyBook key ch) bk
       held-is = ap (λ (y : (ℕ × KeySize) × List ℕ). y .1) (told ∙ clear .1)

@@ -12,7 +12,7 @@ use Rattle.pad.specs.Padding.{paddedForSealing, paddedForTag}
 use Rattle.claims.specs.Built.{padSet}
 use Rattle.claims.specs.Sealing.{codeOf, fileOf}
 use Rattle.claims.proofs.BuiltLaws.{not-refused}
-use Rattle.roundtrip.specs.Roundtrips.{keyBook, tagCodeOf, over, buildTests, codeCallTests, sealCallTests, tagRoundtrip, sealRoundtrip}
+use Rattle.roundtrip.specs.Roundtrips.{keyBook, tagCodeOf, over, buildCallTests, codeCallTests, sealCallTests, tagRoundtrip, sealRoundtrip}
 use Rattle.roundtrip.proofs.StartLaws.{build-numbered}
 
 -- one call: what is after it was answered, and its number is 0 too
@@ -26,7 +26,7 @@ module _ (key ch m bk co : List ℕ) where
   pub tag-valid : (tagRoundtrip key ch m bk co) .0 .0 ≡ 0 → tagRoundtrip key ch m bk co ≡ ((0, 1), (over (keyBook key ch) bk, over (tagCodeOf (padSet ch) m) co))
   unfolding tagRoundtrip
   tag-valid h =
-      let p = passed (buildTests key ch bk) (bk, co) (first (codeCallTests m (length (paddedForTag m)) co) (λ q. ((q, 0), (over (keyBook key ch) bk, co)))
+      let p = passed (buildCallTests key ch bk) (bk, co) (first (codeCallTests m (length (paddedForTag m)) co) (λ q. ((q, 0), (over (keyBook key ch) bk, co)))
       ((0, 1), (over (keyBook key ch) bk, over (tagCodeOf (padSet ch) m) co))) (build-numbered key ch bk) h in
       let c = passed (codeCallTests m (length (paddedForTag m)) co) (over (keyBook key ch) bk, co) ((0, 1), (over (keyBook key ch) bk, over (tagCodeOf (padSet ch) m) co))
       (lit< tt, (lit< tt, tt)) (p .1) in
@@ -61,7 +61,7 @@ module _ (key ch iv m bk co se out : List ℕ) where
       ≡ ((0, length m), (over (keyBook key ch) bk, over (codeOf (padSet ch) m) co, over (fileOf (padSet ch) (keyBook key ch) iv m) se, over m out))
   unfolding sealRoundtrip
   message-back h =
-      let p = passed (buildTests key ch bk) (bk, co, se, out) coded (build-numbered key ch bk) h in
+      let p = passed (buildCallTests key ch bk) (bk, co, se, out) coded (build-numbered key ch bk) h in
       let c = passed (codeCallTests m size co) (book, co, se, out) sealed (lit< tt, (lit< tt, tt)) (p .1) in
       let s = passed (sealCallTests iv size se) (book, code, se, out) opened (lit< tt, (lit< tt, tt)) (c .1) in
       let o = passed (roomTests size out) (book, code, file, out) back (lit< tt, tt) (s .1) in

@@ -36,8 +36,8 @@ over x buffer = x ++ drop (length x) buffer
 -- ---- what each call on a round trip can refuse
 
 -- building: 1 of the key, 2 to 5 of the chain, 9 of a buffer shorter than the book
-abbrev pub buildTests : List ℕ → List ℕ → List ℕ → List (Bool × ℕ)
-buildTests key ch bk = keyTests key ++ (chainTests (keySize key) ch ++ roomTests (bookLength (keySize key)) bk)
+abbrev pub buildCallTests : List ℕ → List ℕ → List ℕ → List (Bool × ℕ)
+buildCallTests key ch bk = keyTests key ++ (chainTests (keySize key) ch ++ roomTests (bookLength (keySize key)) bk)
 
 -- coding a message as n bytes: 8 of the message, 9 of the buffer
 abbrev pub codeCallTests : List ℕ → ℕ → List ℕ → List (Bool × ℕ)
@@ -52,7 +52,7 @@ sealCallTests iv n se = blockTests iv ++ roomTests n se
 -- tagged and checked, with buffers for book and code: the verdict is Valid (1). No call after coding refuses
 unfoldable pub tagRoundtrip : List ℕ → List ℕ → List ℕ → List ℕ → List ℕ → (ℕ × ℕ) × (List ℕ × List ℕ)
 tagRoundtrip key ch m bk co =
-    first (buildTests key ch bk) (λ q. ((q, 0), (bk, co)))
+    first (buildCallTests key ch bk) (λ q. ((q, 0), (bk, co)))
     (first (codeCallTests m (length (paddedForTag m)) co) (λ q. ((q, 0), (over (keyBook key ch) bk, co)))
     ((0, 1), (over (keyBook key ch) bk, over (tagCodeOf (padSet ch) m) co)))
 
@@ -64,7 +64,7 @@ sealRoundtrip key ch iv m bk co se out =
     let book = over (keyBook key ch) bk in
     let code = over (codeOf (padSet ch) m) co in
     let file = over (fileOf (padSet ch) (keyBook key ch) iv m) se in
-    first (buildTests key ch bk) (λ q. ((q, 0), (bk, co, se, out)))
+    first (buildCallTests key ch bk) (λ q. ((q, 0), (bk, co, se, out)))
     (first (codeCallTests m n co) (λ q. ((q, 0), (book, co, se, out)))
     (first (sealCallTests iv n se) (λ q. ((q, 0), (book, code, se, out)))
     (first (roomTests n out) (λ q. ((q, 0), (book, code, file, out)))

@@ -13,7 +13,7 @@ use Rattle.pad.specs.Answers.{sealingAnswer, tagAnswer}
 use Rattle.driver.specs.Driver.{sealAnswer, beginAnswer, blockAnswer, lastAnswer}
 use Rattle.driver.specs.declared.session.Session.{Session}
 use Rattle.archive.specs.Archive.{openAnswer, checkAnswer}
-use Rattle.roundtrip.specs.Roundtrips.{keyBook, over, buildTests}
+use Rattle.roundtrip.specs.Roundtrips.{keyBook, over, buildCallTests}
 use Rattle.roundtrip.specs.declared.start.Started.{Started}
 use Rattle.roundtrip.specs.declared.start.Started.the-variants as S
 
@@ -23,7 +23,7 @@ startTold (S.Built z) = (0, z)
 startTold (S.Refused q) = (numberOf q, Bytes16)
 
 unfoldable pub startAnswer : List ℕ → List ℕ → List ℕ → (ℕ × KeySize) × List ℕ
-startAnswer key ch bk = first (buildTests key ch bk) (λ q. ((q, Bytes16), bk)) ((0, keySize key), over (keyBook key ch) bk)
+startAnswer key ch bk = first (buildCallTests key ch bk) (λ q. ((q, Bytes16), bk)) ((0, keySize key), over (keyBook key ch) bk)
 
 -- after a call's number: its refusal, or what comes next
 unfoldable pub next : {A : Type 0} → ℕ → (ℕ → A) → A → A

@@ -3,7 +3,7 @@ ghost use mathlib.Core.Path.{_≡_};
 ghost use Prim.Native.Nat.{_+_, _*_, _/_, _%_, _<_, _≤_};
 ghost use lib.Bits.{bitXor};
 ghost use lib.ListN.{length};
-ghost use Rattle.cipher.specs.Lengths.{addLength, addsLength, setLength};
+ghost use Rattle.cipher.specs.Lengths.{addLength, addsLength, setLength, codingLength};
 ghost use Rattle.lists.specs.Tabulation.{tab, chunks};
 ghost use Rattle.lists.specs.Blocks.{Below};
 ghost use Rattle.lists.specs.HalfBytes.{halfByte};
@@ -23,7 +23,7 @@ pub fn half(w: u32, j: usize) -> u8
 
 // The sixteen values at a place of s, each under the key half byte k.
 pub fn keyed(s: &[u8], at: usize, k: u8) -> [u8; 16]
-    requires { ⌜ at + 16 ≤ length (now s) ⌝ }
+    requires { ⌜ at + codingLength ≤ length (now s) ⌝ }
     ensures { λ r. ⌜ r ≡ tab 16 (keyedBy (now (s .entry)) at k) ⌝ }
 {
     let mut b = [0u8; 16];
@@ -43,7 +43,7 @@ fn summand(u: u8, k: u8, c: usize, m: u8) -> u8
 
 // The summands of the rows of an add table: without a carry, then with one.
 fn row_summands(s: &[u8], at: usize, k: u8, m: u8) -> [u8; 32]
-    requires { ⌜ (at + 16 ≤ length (now s)) × Below 16 (now s) × (k < 16) × (m < 2) ⌝ }
+    requires { ⌜ (at + codingLength ≤ length (now s)) × Below 16 (now s) × (k < 16) × (m < 2) ⌝ }
     ensures { λ r. ⌜ r ≡ tab 32 (summands (now (s .entry)) at k m) ⌝ }
 {
     let mut a = [0u8; 32];

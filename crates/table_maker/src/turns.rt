@@ -2,7 +2,7 @@
 ghost use mathlib.Core.Path.{_≡_};
 ghost use Prim.Native.Nat.{_+_, _*_, _<_, _≤_};
 ghost use lib.ListN.{length};
-ghost use Rattle.cipher.specs.Lengths.{middlesLength, turnLength};
+ghost use Rattle.cipher.specs.Lengths.{middlesLength, turnLength, codingLength};
 ghost use Rattle.lists.specs.Tabulation.{tab, chunks};
 ghost use Rattle.lists.specs.Blocks.{Below};
 ghost use Rattle.cipher.specs.Tables.{upper, lower};
@@ -37,7 +37,7 @@ fn lower_part(i: usize, v: u8) -> u8
 
 // The same of the sixteen values at a place of s.
 fn upper_parts(s: &[u8], at: usize, i: usize) -> [u8; 16]
-    requires { ⌜ (at + 16 ≤ length (now s)) × Below 16 (now s) ⌝ }
+    requires { ⌜ (at + codingLength ≤ length (now s)) × Below 16 (now s) ⌝ }
     ensures { λ r. ⌜ r ≡ tab 16 (upperParts (now (s .entry)) at i) ⌝ }
 {
     let mut a = [0u8; 16];
@@ -48,7 +48,7 @@ fn upper_parts(s: &[u8], at: usize, i: usize) -> [u8; 16]
 }
 
 fn lower_parts(s: &[u8], at: usize, i: usize) -> [u8; 16]
-    requires { ⌜ at + 16 ≤ length (now s) ⌝ }
+    requires { ⌜ at + codingLength ≤ length (now s) ⌝ }
     ensures { λ r. ⌜ r ≡ tab 16 (lowerParts (now (s .entry)) at i) ⌝ }
 {
     let mut b = [0u8; 16];
@@ -61,14 +61,14 @@ fn lower_parts(s: &[u8], at: usize, i: usize) -> [u8; 16]
 // Where the middle codings of those two half bytes stand.
 fn upper_at(i: usize, j: usize) -> usize
     requires { ⌜ (i < 3) × (j < 8) ⌝ }
-    ensures { λ r. ⌜ (r ≡ 16 * (8 * i + upper i j)) × (r + 16 ≤ middlesLength) ⌝ }
+    ensures { λ r. ⌜ (r ≡ codingLength * (8 * i + upper i j)) × (r + codingLength ≤ middlesLength) ⌝ }
 {
     lengths::CODING * (lengths::HALVES * i + (j + UPPER[i]) % lengths::HALVES)
 }
 
 fn lower_at(i: usize, j: usize) -> usize
     requires { ⌜ (i < 3) × (j < 8) ⌝ }
-    ensures { λ r. ⌜ (r ≡ 16 * (8 * i + lower i j)) × (r + 16 ≤ middlesLength) ⌝ }
+    ensures { λ r. ⌜ (r ≡ codingLength * (8 * i + lower i j)) × (r + codingLength ≤ middlesLength) ⌝ }
 {
     lengths::CODING * (lengths::HALVES * i + (j + LOWER[i]) % lengths::HALVES)
 }
@@ -88,7 +88,7 @@ fn turn_table(s: &[u8], after: &[u8], p: usize, out: &mut [u8])
 
 // The turn tables of a round.
 pub fn turn_tables(s: &[u8], after: &[u8], out: &mut [u8])
-    requires { ⌜ (length (now s) ≡ middlesLength) × Below 16 (now s) × (middlesLength ≤ length (now after)) × (length (now out) ≡ 6144) ⌝ }
+    requires { ⌜ (length (now s) ≡ middlesLength) × Below 16 (now s) × (middlesLength ≤ length (now after)) × (length (now out) ≡ 24 * turnLength) ⌝ }
     ensures { λ _. ⌜ now (out .exit) ≡ chunks 24 (madeTurn (now (s .entry)) (now (after .entry))) ⌝ }
 {
     let mut at: usize = 0;

@@ -81,11 +81,11 @@ fn fresh(book: &[u8]) -> Session {
 // The session after the block calls for all blocks of a coded file but the last.
 fn block_calls(start: Session, book: &[u8], coded: &[u8]) -> Session {
     let mut s = start;
-    let n = coded.len() / 16;
+    let n = coded.len() / lengths::BLOCK;
     let mut k = 1;
     while k < n {
-        let at = 16 * (k - 1);
-        let a = block_call(s, book, &coded[at..at + 16]);
+        let at = lengths::BLOCK * (k - 1);
+        let a = block_call(s, book, &coded[at..at + lengths::BLOCK]);
         s = a.session;
         k += 1;
     }
@@ -96,10 +96,10 @@ fn block_calls(start: Session, book: &[u8], coded: &[u8]) -> Session {
 fn make_tag(book: &[u8], coded: &[u8], kind: u8) -> [u8; 16] {
     let s = block_calls(fresh(book), book, coded);
     let n = coded.len();
-    if n < 16 {
+    if n < lengths::BLOCK {
         return [0u8; 16];
     }
-    let last = last_call(s, book, &coded[n - 16..], kind);
+    let last = last_call(s, book, &coded[n - lengths::BLOCK..], kind);
     let answer = last.answer;
     let tag = answer.block;
     show(b"   out  tag              ", &tag);
