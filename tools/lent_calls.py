@@ -62,13 +62,10 @@ def broken(line, width=160):
     return [line[:at]] + broken(' ' * more + line[at + 1:])
 
 
-def written(F, callee, out, told, answer, path, layout, kinds, spec):
+def named(kinds):
+    """What the parameters of these kinds are called: values, machine values, owners, hypotheses; of the slices the lifetimes, their
+    shares and their places."""
     p = len(kinds)
-    L = p + 4  # the locals: the result, the parameters, what the call gives, and the session read out
-    kebab, ckebab = F.replace('_', '-'), callee.replace('_', '-')
-    rname = path.split('.')[1]
-    E = 'EL' if layout == 'enum' else 'LL'
-    key, ckey = f'#driver·lent·{kebab}', f'#driver·session·{ckebab}'
     slices = [k for k in range(p) if kinds[k] == 'slice']
     n = len(slices)
     x = [f's{sub(k + 1)}' if k in slices else f'n{sub(k + 1)}' for k in range(p)]
@@ -77,14 +74,37 @@ def written(F, callee, out, told, answer, path, layout, kinds, spec):
     h = [f'p{sub(k + 1)}' for k in range(p)]
     kap, qs = [f'κ{sub(j + 1)}' for j in range(n)], [f'q{sub(j + 1)}' for j in range(n)]
     at = {k: j for j, k in enumerate(slices)}
+    return x, v, own, h, kap, qs, at
+
+
+def row_of(kap, at, k, lent):
+    """The row of parameter k, whose lifetime is the one at its place, counted from `lent`."""
+    return f'ShrSlice (named {at[k] + lent}) {kap[at[k]]} u8' if k in at else 'u8'
+
+
+def typed_as(kinds, k, lent):
+    """That parameter k has its type."""
+    x, v, own, h, kap, qs, at = named(kinds)
+    if k in at:
+        return f'(shr-slice-lawful 𝓤 H A W (named {at[k] + lent}) {kap[at[k]]} u8 .typed {x[k]} ({v[k]} ∷ []) {h[k]} .0)'
+    return f'(tt, record {{ fits = {h[k]} }})'
+
+
+def written(F, callee, out, told, answer, path, layout, kinds, spec):
+    p = len(kinds)
+    L = p + 4  # the locals: the result, the parameters, what the call gives, and the session read out
+    kebab, ckebab = F.replace('_', '-'), callee.replace('_', '-')
+    rname = path.split('.')[1]
+    E = 'EL' if layout == 'enum' else 'LL'
+    key, ckey = f'#driver·lent·{kebab}', f'#driver·session·{ckebab}'
+    x, v, own, h, kap, qs, at = named(kinds)
+    n = len(at)
 
     def row(k, lent=True):
-        return f'ShrSlice (named {at[k] + lent}) {kap[at[k]]} u8' if k in at else 'u8'
+        return row_of(kap, at, k, lent)
 
     def typed(k):
-        if k in at:
-            return f'(shr-slice-lawful 𝓤 H A W (named {at[k] + 1}) {kap[at[k]]} u8 .typed {x[k]} ({v[k]} ∷ []) {h[k]} .0)'
-        return f'(tt, record {{ fits = {h[k]} }})'
+        return typed_as(kinds, k, 1)
 
     def local(base, j):
         return base + 2 * (L - 1 - j)
@@ -100,7 +120,7 @@ def written(F, callee, out, told, answer, path, layout, kinds, spec):
     idx = {p: 6, **{k: 8 + (p - 1 - k) for k in range(1, p)}}
     base = p + 6
     res = p + 2
-    byte = len(slices) < p
+    byte = n < p
     enum = '\nuse denote.Enum.Laws as EL' if layout == 'enum' else ''
     nat, w8, vint = ('ℕ, _<_, _^_', ', w8', ', vint') if byte else ('ℕ', '', '')
     plain = 'use denote.Plain.{uint-makes, uint-vals, uint-tells}\n' if byte else ''
@@ -362,22 +382,14 @@ def lending(F, callee, out, told, answer, path, layout, kinds, spec):
     E = 'EL' if layout == 'enum' else 'LL'
     tells = 'outcomeOf' if layout == 'enum' else 'blockTold'
     fits = ' tt' if layout == 'enum' else ''
-    slices = [k for k in range(p) if kinds[k] == 'slice']
-    n, byte = len(slices), len(slices) < p
-    x = [f's{sub(k + 1)}' if k in slices else f'n{sub(k + 1)}' for k in range(p)]
-    v = [f'v{sub(k + 1)}' for k in range(p)]
-    own = [f'Own{sub(k + 1)}' for k in range(p)]
-    h = [f'p{sub(k + 1)}' for k in range(p)]
-    kap, qs = [f'κ{sub(j + 1)}' for j in range(n)], [f'q{sub(j + 1)}' for j in range(n)]
-    at = {k: j for j, k in enumerate(slices)}
+    x, v, own, h, kap, qs, at = named(kinds)
+    n, byte = len(at), len(at) < p
 
     def row(k, lent):
-        return f'ShrSlice (named {at[k] + lent}) {kap[at[k]]} u8' if k in at else 'u8'
+        return row_of(kap, at, k, lent)
 
     def typed(k):
-        if k in at:
-            return f'(shr-slice-lawful 𝓤 H A W (named {at[k]}) {kap[at[k]]} u8 .typed {x[k]} ({v[k]} ∷ []) {h[k]} .0)'
-        return f'(tt, record {{ fits = {h[k]} }})'
+        return typed_as(kinds, k, 0)
 
     def a_session(s, fact):
         return f'(LL.lawful T.the-type T′.the-laws 𝓤 H A W .typed {s} _ {fact} .0)'
@@ -474,7 +486,7 @@ module _ {{M : Type 1}} (𝓤 : URA M) (H : Heap 𝓤) (A : Atoms 𝓤) (at-mem 
     w.append(f'''  abbrev Post : Val → SProp 𝓤
   Post = walkOf 𝓤 H A f.ended stayed (f.clauses 𝓤 H A at-mem run) .post {ghost}
 ''')
-    for k in slices:
+    for k in at:
         w.append(f'''  abbrev {own[k]} : Fml
   {own[k]} = {row(k, 0)} .own {x[k]} ({v[k]} ∷ [])
 ''')
@@ -521,8 +533,8 @@ module _ {{M : Type 1}} (𝓤 : URA M) (H : Heap 𝓤) (A : Atoms 𝓤) (at-mem 
   said-both : (r : {rname}) (z : Session) (k : {out}) → ent 𝓤 (ensured 𝓤 H A both.ended (both.clauses 𝓤 H A at-mem run) tt (r, (z, tt)) tt k) (fact 𝓤 (Joined r z k))
   said-both r z k = exE 𝓤 _ (λ ws. snd∗ 𝓤 (sem 𝓤 H A (lasts both.ended tt (r, (z, tt)) ws)) (fact 𝓤 (Joined r z k)))
 ''')
-    left = ' ∷ '.join(['‵ (S.the-row .own k (w ∷ []))', 'Toks'] + [f'‵ {own[k]}' for k in slices] + ['[]'])
-    out_items = Items(['res', 'tok'] + [f'o{k}' for k in slices])
+    left = ' ∷ '.join(['‵ (S.the-row .own k (w ∷ []))', 'Toks'] + [f'‵ {own[k]}' for k in at] + ['[]'])
+    out_items = Items(['res', 'tok'] + [f'o{k}' for k in at])
     o = out_items
     o.move('tok')
     o.turn('frame ! $', ['tok'], [])
@@ -626,7 +638,7 @@ module _ {{M : Type 1}} (𝓤 : URA M) (H : Heap 𝓤) (A : Atoms 𝓤) (at-mem 
         i.move(f'c{j}', f'f{j}')
         i.turn('free1 ! $', [f'c{j}', f'f{j}'], [])
     i.say('free0 ! $')
-    ends = ['res', 'tok'] + [f'o{k}' for k in slices]
+    ends = ['res', 'tok'] + [f'o{k}' for k in at]
     i.say('keep ! (' + ''.join(f'{i.at(name)} ∷ ' for name in ends) + f'[]) $ by ! (exits k w (ek ∙ e) {hyp_names})' + ')' * (L + 12))
     hyp = 'Is T.the-row h (valT h ∷ []) → ' + ''.join((f'Is ({row(k, 0)}) {x[k]} ({v[k]} ∷ [])' if k in at else f'{x[k]} < 2 ^ 8') + ' → ' for k in range(p))
     machine = ' ∷ '.join(['valT h'] + v + ['[]'])
