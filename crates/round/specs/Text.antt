@@ -5,13 +5,14 @@ use mathlib.Core.List.{List, [], _∷_, _++_}
 use Prim.Native.Nat.{ℕ, zero, suc, _-_, _/_, _%_}
 use lib.Dec.{eqb, ltb}
 use lib.ListN.{length, getD, replicate}
+use Rattle.lists.specs.Blocks.{blockLength}
 use Rattle.lists.specs.Tabulation.{chunks}
 use Rattle.io.specs.Digits.{glyph, digits}
 use Rattle.round.specs.declared.text.Report.{Report}
 
 -- a block in hex: two digits a byte
 unfoldable pub hexOf : List ℕ → List ℕ
-hexOf b = chunks 16 (λ k. digits 16 2 (getD b k 0))
+hexOf b = chunks blockLength (λ k. digits 16 2 (getD b k 0))
 
 -- digit k of it, from its byte x
 unfoldable pub hexDigit : ℕ → ℕ → ℕ
