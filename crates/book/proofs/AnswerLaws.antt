@@ -1,20 +1,19 @@
 -- The answers of the builder, case by case. The cases exclude each other and leave none out.
-use mathlib.Core.Path.{_≡_, refl, sym, ap, ap₂, _∙_}
-use mathlib.Core.Bool.{Bool, true, false}
-use mathlib.Core.List.{List, [], _∷_, _++_}
+use mathlib.Core.Path.{_≡_, sym, ap, ap₂, _∙_}
+use mathlib.Core.Bool.{Bool}
+use mathlib.Core.List.{List, [], _++_}
 use Prim.Native.Nat.{ℕ, _-_, _%_, _≤_, _<_}
 use native.Mathlib.Nat.{mod-lt}
 use native.Mathlib.Omega.{arith}
 use lib.ListN.{length, getD, take, drop}
 use lib.Seq.{length-take-le}
 use Rattle.lists.specs.Refusals.{first}
-use Rattle.lists.proofs.RefusalLaws.{Clear}
 use Rattle.cipher.specs.KeySize.{rounds, sizeOfKey}
 use Rattle.cipher.specs.Lea.{keyRows}
 use Rattle.cipher.specs.Book.{roundPart, bookRound}
 use Rattle.cipher.proofs.KeySizeLaws.{rounds-more}
-use Rattle.cipher.specs.Chain.{Chain, roundCodings, chainTests}
-use Rattle.cipher.proofs.ChainTests.{chain-tested}
+use Rattle.cipher.specs.Chain.{ChainBy, roundCodings, chainTestsBy}
+use Rattle.cipher.proofs.CheckLaws.{told-refused}
 use Rattle.cipher.proofs.ChainRefusals.{chain-taken}
 use Rattle.cipher.specs.Answers.{roomTests}
 use Rattle.cipher.proofs.AnswerLaws.{length-refused, length-taken, room-refused, room-taken}
@@ -22,65 +21,39 @@ use Rattle.cipher.specs.declared.size.KeySize.{KeySize}
 use Rattle.cipher.specs.declared.size.SizeFound.the-variants.{Found, Unknown}
 use Rattle.book.specs.Answers.{builtInto}
 
--- no number is 0
-abbrev Numbered : List (Bool × ℕ) → Type 0
-Numbered [] = Unit {0}
-Numbered (t ∷ ts) = (t .1 ≡ 0 → ⊥) × Numbered ts
-
--- tests that answered 0 are passed, and those that answered another number give it whatever follows
-passed : (ts : List (Bool × ℕ)) → Numbered ts → first ts (λ n. n) 0 ≡ 0 → Clear ts
-unfolding first
-passed [] h e = tt
-passed ((true, n) ∷ ts) h e = absurd (h .0 e)
-passed ((false, n) ∷ ts) h e = (refl, passed ts (h .1) e)
-
-hit : {A : Type 0} (ts us : List (Bool × ℕ)) (refuse : ℕ → A) (go : A) (n : ℕ) → first ts (λ k. k) 0 ≡ n → (n ≡ 0 → ⊥) → first (ts ++ us) refuse go ≡ refuse n
-unfolding first
-hit [] us refuse go n e h = absurd (h (sym e))
-hit ((true, k) ∷ ts) us refuse go n e h = ap refuse e
-hit ((false, k) ∷ ts) us refuse go n e h = hit ts us refuse go n e h
-
-numbered : (z : KeySize) (ch : List ℕ) → Numbered (chainTests z ch)
-unfolding chainTests
-numbered z ch = (λ e. omega arith, (λ e. omega arith, (λ e. omega arith, (λ e. omega arith, tt))))
-
--- a chain whose tests answered 0 is valid
-pub checked-valid : (z : KeySize) (ch : List ℕ) → first (chainTests z ch) (λ n. n) 0 ≡ 0 → Chain z ch
-checked-valid z ch e = chain-tested z ch (passed (chainTests z ch) (numbered z ch) e)
-
-module _ (key ch out : List ℕ) (len : KeySize → ℕ) (part : KeySize → List ℕ) where
+module _ (from to : ℕ) (key ch out : List ℕ) (len : KeySize → ℕ) (part : KeySize → List ℕ) where
   tests : KeySize → List (Bool × ℕ)
-  tests z = chainTests z ch ++ roomTests (len z) out
+  tests z = chainTestsBy from to z ch ++ roomTests (len z) out
 
   done : KeySize → ℕ × List ℕ
   done z = (0, part z ++ drop (len z) out)
 
-  pub built-key : sizeOfKey (length key) ≡ Unknown → builtInto key ch out len part ≡ (1, out)
+  pub built-key : sizeOfKey (length key) ≡ Unknown → builtInto from to key ch out len part ≡ (1, out)
   unfolding builtInto tests done
   built-key e = length-refused (length key) tests (λ n. (n, out)) done e
 
   module _ (z : KeySize) (e : sizeOfKey (length key) ≡ Found z) where
-    sized : builtInto key ch out len part ≡ first (chainTests z ch ++ roomTests (len z) out) (λ n. (n, out)) (0, part z ++ drop (len z) out)
+    sized : builtInto from to key ch out len part ≡ first (chainTestsBy from to z ch ++ roomTests (len z) out) (λ n. (n, out)) (0, part z ++ drop (len z) out)
     unfolding builtInto tests done
     sized = length-taken (length key) tests (λ n. (n, out)) done z e
 
-    pub built-chain : (n m : ℕ) → n ≡ first (chainTests z ch) (λ k. k) 0 → m ≡ n → (m ≡ 0 → ⊥) → builtInto key ch out len part ≡ (n, out)
+    pub built-chain : (n m : ℕ) → n ≡ first (chainTestsBy from to z ch) (λ k. k) 0 → m ≡ n → (m ≡ 0 → ⊥) → builtInto from to key ch out len part ≡ (n, out)
     built-chain n m q p h =
-        sized ∙ hit (chainTests z ch) (roomTests (len z) out) (λ k. (k, out)) (0, part z ++ drop (len z) out) n (sym q) (λ r. h (p ∙ r))
+        sized ∙ told-refused (roomTests (len z) out) (λ k. (k, out)) (0, part z ++ drop (len z) out) (chainTestsBy from to z ch) n (omega arith) (sym q)
 
-    module _ (v : Chain z ch) where
-      taken : builtInto key ch out len part ≡ first (roomTests (len z) out) (λ n. (n, out)) (0, part z ++ drop (len z) out)
-      taken = sized ∙ chain-taken (roomTests (len z) out) (λ n. (n, out)) (0, part z ++ drop (len z) out) z ch v
+    module _ (v : ChainBy from to z ch) where
+      taken : builtInto from to key ch out len part ≡ first (roomTests (len z) out) (λ n. (n, out)) (0, part z ++ drop (len z) out)
+      taken = sized ∙ chain-taken (roomTests (len z) out) (λ n. (n, out)) (0, part z ++ drop (len z) out) from to z ch v
 
-      pub built-room : length out < len z → builtInto key ch out len part ≡ (9, out)
+      pub built-room : length out < len z → builtInto from to key ch out len part ≡ (9, out)
       built-room h = taken ∙ room-refused (len z) out (λ n. (n, out)) (0, part z ++ drop (len z) out) h
 
-      pub built-done : len z ≤ length out → (x : List ℕ) → x ≡ part z → (0, x ++ drop (len z) out) ≡ builtInto key ch out len part
+      pub built-done : len z ≤ length out → (x : List ℕ) → x ≡ part z → (0, x ++ drop (len z) out) ≡ builtInto from to key ch out len part
       built-done h x p =
           ap (λ (y : List ℕ). (0, y ++ drop (len z) out)) p ∙ sym (taken ∙ room-taken (len z) out (λ n. (n, out)) (0, part z ++ drop (len z) out) h)
 
       -- the same where n is written for the length
-      pub built-front : len z ≤ length out → (n : ℕ) → n ≡ len z → (x : List ℕ) → x ≡ part z → (0, x ++ drop (n - 0) out) ≡ builtInto key ch out len part
+      pub built-front : len z ≤ length out → (n : ℕ) → n ≡ len z → (x : List ℕ) → x ≡ part z → (0, x ++ drop (n - 0) out) ≡ builtInto from to key ch out len part
       built-front h n e x p =
           let d : n - 0 ≡ len z = omega arith in
           ap (λ (k : ℕ). (0, x ++ drop k out)) d ∙ built-done h x p

@@ -42,7 +42,7 @@ module _ (z : KeySize) (rows : List (List ℕ)) (ch bk : List ℕ) (v : Chain z 
   book-rounds b n l =
       rounds-law (rounds z) (chainSet ch) (roundCodings (rounds z) ch) rows (roundAt bk)
       (λ l. unfold roundCodings in refl) (λ l. unfold roundCodings in refl)
-      (valid-round (rounds z) ch (v .codings) (v .word3) (v .masks)) (h .tables) b n l (v .codings .sets n l)
+      (valid-round (rounds z) ch (v .codings) (v .words) (v .masks)) (h .tables) b n l (v .codings .sets n l)
 
   -- a fold by group g, decoded by set 0, is a xor
   pub book-fold : (g : ℕ) → g < 3 → (x m : List ℕ)

@@ -129,7 +129,7 @@ module _ (z : KeySize) (U : Set) (S G : ℕ → Set) (M : ℕ → ℕ → ℕ) w
   from-valid h = record {
     size = from-length r U S G M ∙ omega arith;
     codings = from-codings r U S G M h;
-    word3 = from-words r U S G M 0 3 (lit< tt) (lit< tt) (h .word3);
+    words = from-words r U S G M 0 3 (lit< tt) (lit< tt) (h .word3);
     masks = from-masks r U S G M (h .bits) (h .firsts);
   }
 
@@ -141,7 +141,7 @@ module _ (z : KeySize) (U : Set) (S G : ℕ → Set) (M : ℕ → ℕ → ℕ) w
         (h .codings .sets l hl w j hw hj);
     middles = λ l i j hl hi hj. once-ext 16 16 (middleSet r (chainFrom r U S G M) l i j) (G l i j)
         (λ v hv. middle-read r U S G M l i j v hl hi hj hv) (h .codings .middles l i j hl hi hj);
-    word3 = words-from r U S G M 0 3 (lit< tt) (lit< tt) (h .word3);
+    word3 = words-from r U S G M 0 3 (lit< tt) (lit< tt) (h .words);
     bits = λ l k hl hk.
         let e : 8 * (k / 8) + k % 8 ≡ k = omega arith in
         let b = h .masks .bits l (k / 8) (k % 8) hl (omega arith) (omega arith) in

@@ -11,7 +11,7 @@ use lib.ListN.{length}
 use Rattle.lists.specs.Refusals.{first}
 use Rattle.cipher.specs.KeySize.{rounds, keyLength, chainLength}
 use Rattle.cipher.specs.Coding.{Permutations, setOf}
-use Rattle.cipher.specs.Chain.{CodingRule, WordRule, MaskRule, Chain, LoneSet, arePermutations, codingRuleHolds, wordRuleHolds, maskRuleHolds, setTests, chainTests}
+use Rattle.cipher.specs.Chain.{CodingRule, SameWords, MaskRule, ChainBy, Chain, LoneSet, arePermutations, codingRuleHolds, wordsKept, maskRuleHolds, setTests, chainTestsBy, chainTests}
 use Rattle.cipher.specs.Lengths.{setLength}
 use Rattle.cipher.specs.Answers.{setChecked, chainChecked}
 use Rattle.cipher.specs.declared.size.KeySize.{KeySize}
@@ -48,45 +48,45 @@ module _ {A : Type 0} (ts : List (Bool × ℕ)) (refuse : ℕ → A) (go : A) wh
     unfolding setTests first
     set-taken h = rw (size-right (length s) setLength (h .size), passed (arePermutations 32 s) (permutations-set s (h .codings)))
 
-  -- ---- a chain
-  module _ (z : KeySize) (ch : List ℕ) where
-    pub chain-length-refused : (length ch ≡ chainLength z → ⊥) → first (chainTests z ch ++ ts) refuse go ≡ refuse 2
-    unfolding chainTests first
+  -- ---- a chain, with any word rule
+  module _ (from to : ℕ) (z : KeySize) (ch : List ℕ) where
+    pub chain-length-refused : (length ch ≡ chainLength z → ⊥) → first (chainTestsBy from to z ch ++ ts) refuse go ≡ refuse 2
+    unfolding chainTestsBy first
     chain-length-refused h = rw (size-wrong (length ch) (chainLength z) h)
 
-    pub chain-coding-refused : length ch ≡ chainLength z → (CodingRule (rounds z) ch → ⊥) → first (chainTests z ch ++ ts) refuse go ≡ refuse 3
-    unfolding chainTests first
+    pub chain-coding-refused : length ch ≡ chainLength z → (CodingRule (rounds z) ch → ⊥) → first (chainTestsBy from to z ch ++ ts) refuse go ≡ refuse 3
+    unfolding chainTestsBy first
     chain-coding-refused h c =
         rw (size-right (length ch) (chainLength z) h, failed (codingRuleHolds (rounds z) ch) (codings-tested (rounds z) ch) c)
 
-    pub chain-word-refused : length ch ≡ chainLength z → CodingRule (rounds z) ch → (WordRule (rounds z) ch → ⊥)
-        → first (chainTests z ch ++ ts) refuse go ≡ refuse 4
-    unfolding chainTests first
+    pub chain-word-refused : length ch ≡ chainLength z → CodingRule (rounds z) ch → (SameWords from to (rounds z) ch → ⊥)
+        → first (chainTestsBy from to z ch ++ ts) refuse go ≡ refuse 4
+    unfolding chainTestsBy first
     chain-word-refused h c w =
         rw (
           size-right (length ch) (chainLength z) h,
           passed (codingRuleHolds (rounds z) ch) (tested-codings (rounds z) ch c),
-          failed (wordRuleHolds (rounds z) ch) (words-tested 0 3 (rounds z) ch) w,
+          failed (wordsKept from to (rounds z) ch) (words-tested from to (rounds z) ch) w,
         )
 
-    pub chain-mask-refused : length ch ≡ chainLength z → CodingRule (rounds z) ch → WordRule (rounds z) ch → (MaskRule (rounds z) ch → ⊥)
-        → first (chainTests z ch ++ ts) refuse go ≡ refuse 5
-    unfolding chainTests first
+    pub chain-mask-refused : length ch ≡ chainLength z → CodingRule (rounds z) ch → SameWords from to (rounds z) ch → (MaskRule (rounds z) ch → ⊥)
+        → first (chainTestsBy from to z ch ++ ts) refuse go ≡ refuse 5
+    unfolding chainTestsBy first
     chain-mask-refused h c w m =
         rw (
           size-right (length ch) (chainLength z) h,
           passed (codingRuleHolds (rounds z) ch) (tested-codings (rounds z) ch c),
-          passed (wordRuleHolds (rounds z) ch) (tested-words 0 3 (rounds z) ch w),
+          passed (wordsKept from to (rounds z) ch) (tested-words from to (rounds z) ch w),
           failed (maskRuleHolds (rounds z) ch) (masks-tested (rounds z) ch) m,
         )
 
-    pub chain-taken : Chain z ch → first (chainTests z ch ++ ts) refuse go ≡ first ts refuse go
-    unfolding chainTests first
+    pub chain-taken : ChainBy from to z ch → first (chainTestsBy from to z ch ++ ts) refuse go ≡ first ts refuse go
+    unfolding chainTestsBy first
     chain-taken h =
         rw (
           size-right (length ch) (chainLength z) (h .size),
           passed (codingRuleHolds (rounds z) ch) (tested-codings (rounds z) ch (h .codings)),
-          passed (wordRuleHolds (rounds z) ch) (tested-words 0 3 (rounds z) ch (h .word3)),
+          passed (wordsKept from to (rounds z) ch) (tested-words from to (rounds z) ch (h .words)),
           passed (maskRuleHolds (rounds z) ch) (tested-masks (rounds z) ch (h .masks)),
         )
 
@@ -110,22 +110,22 @@ module _ (ch : List ℕ) where
 
   module _ (z : KeySize) where
     sized : chainChecked (keyLength z) ch ≡ first (chainTests z ch ++ []) (λ q. q) 0
-    unfolding chainTests
+    unfolding chainTestsBy
     sized = length-taken (keyLength z) (λ y. chainTests y ch) (λ q. q) (λ y. 0) z (size-of-key z)
 
     pub check-length : (length ch ≡ chainLength z → ⊥) → chainChecked (keyLength z) ch ≡ 2
-    check-length h = sized ∙ chain-length-refused [] (λ q. q) 0 z ch h
+    check-length h = sized ∙ chain-length-refused [] (λ q. q) 0 0 3 z ch h
 
     pub check-valid : Chain z ch → chainChecked (keyLength z) ch ≡ 0
     unfolding first
-    check-valid h = sized ∙ chain-taken [] (λ q. q) 0 z ch h
+    check-valid h = sized ∙ chain-taken [] (λ q. q) 0 0 3 z ch h
 
     module _ (h : length ch ≡ chainLength z) where
       pub check-coding : (CodingRule (rounds z) ch → ⊥) → chainChecked (keyLength z) ch ≡ 3
-      check-coding c = sized ∙ chain-coding-refused [] (λ q. q) 0 z ch h c
+      check-coding c = sized ∙ chain-coding-refused [] (λ q. q) 0 0 3 z ch h c
 
-      pub check-word : CodingRule (rounds z) ch → (WordRule (rounds z) ch → ⊥) → chainChecked (keyLength z) ch ≡ 4
-      check-word c w = sized ∙ chain-word-refused [] (λ q. q) 0 z ch h c w
+      pub check-word : CodingRule (rounds z) ch → (SameWords 0 3 (rounds z) ch → ⊥) → chainChecked (keyLength z) ch ≡ 4
+      check-word c w = sized ∙ chain-word-refused [] (λ q. q) 0 0 3 z ch h c w
 
-      pub check-mask : CodingRule (rounds z) ch → WordRule (rounds z) ch → (MaskRule (rounds z) ch → ⊥) → chainChecked (keyLength z) ch ≡ 5
-      check-mask c w m = sized ∙ chain-mask-refused [] (λ q. q) 0 z ch h c w m
+      pub check-mask : CodingRule (rounds z) ch → SameWords 0 3 (rounds z) ch → (MaskRule (rounds z) ch → ⊥) → chainChecked (keyLength z) ch ≡ 5
+      check-mask c w m = sized ∙ chain-mask-refused [] (λ q. q) 0 0 3 z ch h c w m

@@ -16,8 +16,8 @@ use Rattle.lists.proofs.RefusalLaws.{Clear}
 use Rattle.cipher.specs.KeySize.{rounds, chainLength}
 use Rattle.cipher.specs.Coding.{OneToOne, Permutation, Permutations, SameWord, codingAt, setOf}
 use Rattle.cipher.specs.Tables.{ValidCodings, ValidRound}
-use Rattle.cipher.specs.Chain.{roundBytes, maskAt, maskIn, roundCodings, CodingRule, SameWords, WordRule, MaskRule, Chain, LoneSet}
-use Rattle.cipher.specs.Chain.{isOneToOne, arePermutations, codingRuleHolds, wordKept, wordsKept, wordRuleHolds, maskLimit, maskRuleHolds, setTests, chainTests}
+use Rattle.cipher.specs.Chain.{roundBytes, maskAt, maskIn, roundCodings, CodingRule, SameWords, MaskRule, ChainBy, LoneSet}
+use Rattle.cipher.specs.Chain.{isOneToOne, arePermutations, codingRuleHolds, wordKept, wordsKept, maskLimit, maskRuleHolds, setTests, chainTestsBy}
 use Rattle.cipher.specs.Lengths.{setLength}
 use Rattle.cipher.specs.declared.size.KeySize.{KeySize}
 use Rattle.cipher.proofs.Permutation.{once-ext}
@@ -228,27 +228,27 @@ module _ (r : ℕ) (ch : List ℕ) where
       bit i zero hi hj = lit< tt
       bit i (suc j) hi hj = m .bits l i (suc j) h hi hj
 
-  pub valid-round : CodingRule r ch → WordRule r ch → MaskRule r ch → (l : ℕ) → l < r → ValidRound (roundCodings r ch l)
+  pub valid-round : CodingRule r ch → SameWords 0 3 r ch → MaskRule r ch → (l : ℕ) → l < r → ValidRound (roundCodings r ch l)
   valid-round c w m l h = record { codings = valid-codings c m l h; word3 = unfold roundCodings in w l h }
 
 -- the tests 2 to 5 let through the valid chains and no others
-pub chain-tested : (z : KeySize) (ch : List ℕ) → Clear (chainTests z ch) → Chain z ch
-unfolding chainTests
-chain-tested z ch c = record {
+pub chain-tested : {from to : ℕ} (z : KeySize) (ch : List ℕ) → Clear (chainTestsBy from to z ch) → ChainBy from to z ch
+unfolding chainTestsBy
+chain-tested {from} {to} z ch c = record {
   size = eqb-true (length ch) (chainLength z) (not-false (eqb (length ch) (chainLength z)) (c .0));
   codings = codings-tested (rounds z) ch (not-false (codingRuleHolds (rounds z) ch) (c .1 .0));
-  word3 = words-tested 0 3 (rounds z) ch (not-false (wordRuleHolds (rounds z) ch) (c .1 .1 .0));
+  words = words-tested from to (rounds z) ch (not-false (wordsKept from to (rounds z) ch) (c .1 .1 .0));
   masks = masks-tested (rounds z) ch (not-false (maskRuleHolds (rounds z) ch) (c .1 .1 .1 .0));
 }
 
-pub tested-chain : (z : KeySize) (ch : List ℕ) → Chain z ch → Clear (chainTests z ch)
-unfolding chainTests
-tested-chain z ch h = (
+pub tested-chain : {from to : ℕ} (z : KeySize) (ch : List ℕ) → ChainBy from to z ch → Clear (chainTestsBy from to z ch)
+unfolding chainTestsBy
+tested-chain {from} {to} z ch h = (
   hold (eqb (length ch) (chainLength z)) (eq-eqb (length ch) (chainLength z) (h .size)),
   (
     hold (codingRuleHolds (rounds z) ch) (tested-codings (rounds z) ch (h .codings)),
     (
-      hold (wordRuleHolds (rounds z) ch) (tested-words 0 3 (rounds z) ch (h .word3)),
+      hold (wordsKept from to (rounds z) ch) (tested-words from to (rounds z) ch (h .words)),
       (hold (maskRuleHolds (rounds z) ch) (tested-masks (rounds z) ch (h .masks)), tt),
     ),
   ),

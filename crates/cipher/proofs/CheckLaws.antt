@@ -17,7 +17,7 @@ use Rattle.lists.proofs.RefusalLaws.{Clear}
 use Rattle.lists.proofs.TabulationLaws.{getD-replicate}
 use Rattle.lists.proofs.PartLaws.{part-end}
 use Rattle.cipher.specs.KeySize.{rounds, chainLength}
-use Rattle.cipher.specs.Chain.{Chain, LoneSet, isOneToOne, arePermutations, codingRuleHolds, wordKept, wordRuleHolds, maskRuleHolds, setTests, chainTests}
+use Rattle.cipher.specs.Chain.{ChainBy, LoneSet, isOneToOne, arePermutations, codingRuleHolds, wordKept, wordsKept, maskRuleHolds, setTests, chainTestsBy}
 use Rattle.cipher.specs.Lengths.{setLength}
 use Rattle.cipher.specs.declared.size.KeySize.{KeySize}
 use Rattle.cipher.proofs.ChainTests.{set-tested, chain-tested}
@@ -117,30 +117,30 @@ module _ (s : List ℕ) where
   unfolding setTests first
   set-right h p = rw (eq-eqb (length s) setLength h, p)
 
--- ---- the answers for a chain of a key of size z
+-- ---- the answers for a chain of a key of size z, with any word rule
 
-module _ (z : KeySize) (ch : List ℕ) where
-  pub chain-length-wrong : (length ch ≡ chainLength z → ⊥) → first (chainTests z ch) (λ q. q) 0 ≡ 2
-  unfolding chainTests first
+module _ (from to : ℕ) (z : KeySize) (ch : List ℕ) where
+  pub chain-length-wrong : (length ch ≡ chainLength z → ⊥) → first (chainTestsBy from to z ch) (λ q. q) 0 ≡ 2
+  unfolding chainTestsBy first
   chain-length-wrong h = rw (ne-eqb (length ch) (chainLength z) h)
 
   module _ (h : length ch ≡ chainLength z) where
-    pub chain-codings-wrong : codingRuleHolds (rounds z) ch ≡ false → first (chainTests z ch) (λ q. q) 0 ≡ 3
-    unfolding chainTests first
+    pub chain-codings-wrong : codingRuleHolds (rounds z) ch ≡ false → first (chainTestsBy from to z ch) (λ q. q) 0 ≡ 3
+    unfolding chainTestsBy first
     chain-codings-wrong p = rw (eq-eqb (length ch) (chainLength z) h, p)
 
     module _ (c : codingRuleHolds (rounds z) ch ≡ true) where
-      pub chain-words-wrong : wordRuleHolds (rounds z) ch ≡ false → first (chainTests z ch) (λ q. q) 0 ≡ 4
-      unfolding chainTests first
+      pub chain-words-wrong : wordsKept from to (rounds z) ch ≡ false → first (chainTestsBy from to z ch) (λ q. q) 0 ≡ 4
+      unfolding chainTestsBy first
       chain-words-wrong p = rw (eq-eqb (length ch) (chainLength z) h, c, p)
 
-      module _ (w : wordRuleHolds (rounds z) ch ≡ true) where
-        pub chain-masks-wrong : maskRuleHolds (rounds z) ch ≡ false → first (chainTests z ch) (λ q. q) 0 ≡ 5
-        unfolding chainTests first
+      module _ (w : wordsKept from to (rounds z) ch ≡ true) where
+        pub chain-masks-wrong : maskRuleHolds (rounds z) ch ≡ false → first (chainTestsBy from to z ch) (λ q. q) 0 ≡ 5
+        unfolding chainTestsBy first
         chain-masks-wrong p = rw (eq-eqb (length ch) (chainLength z) h, c, w, p)
 
-        pub chain-right : maskRuleHolds (rounds z) ch ≡ true → first (chainTests z ch) (λ q. q) 0 ≡ 0
-        unfolding chainTests first
+        pub chain-right : maskRuleHolds (rounds z) ch ≡ true → first (chainTestsBy from to z ch) (λ q. q) 0 ≡ 0
+        unfolding chainTestsBy first
         chain-right p = rw (eq-eqb (length ch) (chainLength z) h, c, w, p)
 
 -- ---- what the number that a check gives tells its caller
@@ -181,13 +181,13 @@ set-numbered : (s : List ℕ) → Numbered (setTests s)
 unfolding setTests
 set-numbered s = (lit< tt, (lit< tt, tt))
 
-chain-numbered : (z : KeySize) (ch : List ℕ) → Numbered (chainTests z ch)
-unfolding chainTests
-chain-numbered z ch = (lit< tt, (lit< tt, (lit< tt, (lit< tt, tt))))
+chain-numbered : (from to : ℕ) (z : KeySize) (ch : List ℕ) → Numbered (chainTestsBy from to z ch)
+unfolding chainTestsBy
+chain-numbered from to z ch = (lit< tt, (lit< tt, (lit< tt, (lit< tt, tt))))
 
 -- a set, or a chain, that a check did not refuse
 pub set-checked : (s : List ℕ) → first (setTests s) (λ q. q) 0 ≡ 0 → LoneSet s
 set-checked s e = set-tested s (told-clear (setTests s) (set-numbered s) e)
 
-pub chain-checked : (z : KeySize) (ch : List ℕ) → first (chainTests z ch) (λ q. q) 0 ≡ 0 → Chain z ch
-chain-checked z ch e = chain-tested z ch (told-clear (chainTests z ch) (chain-numbered z ch) e)
+pub chain-checked : {from to : ℕ} (z : KeySize) (ch : List ℕ) → first (chainTestsBy from to z ch) (λ q. q) 0 ≡ 0 → ChainBy from to z ch
+chain-checked {from} {to} z ch e = chain-tested z ch (told-clear (chainTestsBy from to z ch) (chain-numbered from to z ch) e)

@@ -76,21 +76,21 @@ pub record CodingRule (r : ℕ) (ch : List ℕ) : Type 0 where
 abbrev pub SameWords : ℕ → ℕ → ℕ → List ℕ → Type 0
 SameWords from to r ch = (l : ℕ) → l < r → SameWord from to (chainSet ch l) (chainSet ch (suc l))
 
--- the word 3 rule: word 3 is coded as word 0 was
-abbrev pub WordRule : ℕ → List ℕ → Type 0
-WordRule r ch = SameWords 0 3 r ch
-
 -- masks are bits, and none is set where j is 0
 pub record MaskRule (r : ℕ) (ch : List ℕ) : Type 0 where
   pub bits : (l i j : ℕ) → l < r → i < 3 → j < 8 → maskAt r ch l (8 * i + j) < 2
   pub firsts : (l i : ℕ) → l < r → i < 3 → maskAt r ch l (8 * i) ≡ 0
 
--- a valid chain for a key of size z
-pub record Chain (z : KeySize) (ch : List ℕ) : Type 0 where
+-- a chain for a key of size z that is valid with the word rule that goes from one word to another
+pub record ChainBy (from to : ℕ) (z : KeySize) (ch : List ℕ) : Type 0 where
   pub size : length ch ≡ chainLength z
   pub codings : CodingRule (rounds z) ch
-  pub word3 : WordRule (rounds z) ch
+  pub words : SameWords from to (rounds z) ch
   pub masks : MaskRule (rounds z) ch
+
+-- a valid chain: its word rule is the word 3 rule, that word 3 is coded as word 0 was
+abbrev pub Chain : KeySize → List ℕ → Type 0
+Chain z ch = ChainBy 0 3 z ch
 
 -- a valid set that comes alone
 pub record LoneSet (s : List ℕ) : Type 0 where
@@ -119,10 +119,6 @@ wordKept from to before after = every wordLength (λ k. eqb (getD after (wordLen
 unfoldable pub wordsKept : ℕ → ℕ → ℕ → List ℕ → Bool
 wordsKept from to r ch = every r (λ l. wordKept from to (drop (setLength * suc l) ch) (drop (setLength * suc (suc l)) ch))
 
--- the word 3 rule
-abbrev pub wordRuleHolds : ℕ → List ℕ → Bool
-wordRuleHolds r ch = wordsKept 0 3 r ch
-
 -- what the mask at place k must be below
 abbrev pub maskLimit : ℕ → ℕ
 maskLimit k = cond (eqb (k % 8) 0) 1 2
@@ -134,15 +130,18 @@ masksHold s = every 24 (λ k. ltb (maskByte s k) (maskLimit k))
 unfoldable pub maskRuleHolds : ℕ → List ℕ → Bool
 maskRuleHolds r ch = every r (λ l. masksHold (roundBytes r ch l))
 
--- ---- the refusals 2 and 3 of a set that comes alone, and 2 to 5 of a chain for a key of size z
+-- ---- the refusals 2 and 3 of a set that comes alone, and 2 to 5 of a chain for a key of size z, with any word rule and with its own
 
 unfoldable pub setTests : List ℕ → List (Bool × ℕ)
 setTests s = (not (eqb (length s) setLength), 2) ∷ (not (arePermutations 32 s), 3) ∷ []
 
-unfoldable pub chainTests : KeySize → List ℕ → List (Bool × ℕ)
-chainTests z ch =
+unfoldable pub chainTestsBy : ℕ → ℕ → KeySize → List ℕ → List (Bool × ℕ)
+chainTestsBy from to z ch =
     (not (eqb (length ch) (chainLength z)), 2)
     ∷ (not (codingRuleHolds (rounds z) ch), 3)
-    ∷ (not (wordRuleHolds (rounds z) ch), 4)
+    ∷ (not (wordsKept from to (rounds z) ch), 4)
     ∷ (not (maskRuleHolds (rounds z) ch), 5)
     ∷ []
+
+abbrev pub chainTests : KeySize → List ℕ → List (Bool × ℕ)
+chainTests z ch = chainTestsBy 0 3 z ch

@@ -153,10 +153,11 @@ pub fn check_set(set: &[u8]) -> Outcome
     Outcome::Done
 }
 
-// A chain for a key of a known size: its length (2), its codings (3), the word 3 rule (4), its
-// masks (5).
-pub fn check_sized(size: KeySize, chain: &[u8]) -> Outcome
-    ensures { λ r. ⌜ outcomeOf r ≡ first (C.chainTests size (now (chain .entry))) (λ n. n) 0 ⌝ }
+// A chain for a key of a known size, with the word rule that goes from one word to another: its
+// length (2), its codings (3), the word rule (4), its masks (5).
+pub fn check_rule(size: KeySize, chain: &[u8], from: usize, to: usize) -> Outcome
+    requires { ⌜ (from < 4) × (to < 4) ⌝ }
+    ensures { λ r. ⌜ outcomeOf r ≡ first (C.chainTestsBy from to size (now (chain .entry))) (λ n. n) 0 ⌝ }
 {
     if chain.len() != size.chain_len() {
         return Outcome::Refused(Refusal::ChainLength);
@@ -165,13 +166,20 @@ pub fn check_sized(size: KeySize, chain: &[u8]) -> Outcome
     if !codings_permute(chain, r) {
         return Outcome::Refused(Refusal::NoPermutation);
     }
-    if !words_kept(chain, r, 0, 3) {
+    if !words_kept(chain, r, from, to) {
         return Outcome::Refused(Refusal::WordRule);
     }
     if !all_masks_hold(chain, r) {
         return Outcome::Refused(Refusal::MaskByte);
     }
     Outcome::Done
+}
+
+// The same with the word 3 rule.
+pub fn check_sized(size: KeySize, chain: &[u8]) -> Outcome
+    ensures { λ r. ⌜ outcomeOf r ≡ first (C.chainTests size (now (chain .entry))) (λ n. n) 0 ⌝ }
+{
+    check_rule(size, chain, 0, 3)
 }
 
 // A chain for a key of n bytes: the key's length (1), then as above.

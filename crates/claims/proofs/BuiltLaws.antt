@@ -12,7 +12,7 @@ use Rattle.lists.specs.Refusals.{first}
 use Rattle.lists.proofs.RefusalLaws.{Clear}
 use Rattle.cipher.specs.Lea.{keyRows}
 use Rattle.cipher.specs.KeySize.{rounds, bookLength, sizeBy, sizeOfKey}
-use Rattle.cipher.specs.Chain.{Chain, chainTests}
+use Rattle.cipher.specs.Chain.{Chain, chainTests, chainTestsBy}
 use Rattle.cipher.specs.Book.{bookOf, Book}
 use Rattle.cipher.specs.Answers.{keyLengthSize, keySize, roomTests}
 use Rattle.cipher.specs.declared.size.KeySize.{KeySize}
@@ -30,7 +30,7 @@ use Rattle.claims.specs.Built.{Built, bookIn, keyRounds}
 pub any-built : (z : KeySize) (key ch out : List ℕ) → sizeOfKey (length key) ≡ Found z → Chain z ch → bookLength z ≤ length out
     → Built key ch out (bookOf (rounds z) (keyRows z key) ch ++ drop (bookLength z) out)
 any-built z key ch out e v h =
-    sym (built-done key ch out bookLength (λ y. bookOf (rounds y) (keyRows y key) ch) z e v h (bookOf (rounds z) (keyRows z key) ch) refl)
+    sym (built-done 0 3 key ch out bookLength (λ y. bookOf (rounds y) (keyRows y key) ch) z e v h (bookOf (rounds z) (keyRows z key) ch) refl)
 
 -- ---- what an answer 0 tells
 
@@ -67,7 +67,7 @@ module _ (key ch out held : List ℕ) (built : Built key ch out held) where
   book = bookOf (keyRounds key) (keyRows (keySize key) key) ch
 
   numbered : Numbered (buildTests key ch out bookLength)
-  unfolding chainTests
+  unfolding chainTestsBy
   numbered = (lit< tt, (lit< tt, (lit< tt, (lit< tt, (lit< tt, (lit< tt, tt))))))
 
   parts : Clear (buildTests key ch out bookLength) × (book ++ drop (bookLength (keySize key)) out ≡ held)

@@ -8,7 +8,7 @@ use Rattle.lists.proofs.OrderLaws.{goes-by}
 use Rattle.cipher.specs.KeySize.{bookLength}
 use Rattle.cipher.specs.Lengths.{roundLength}
 use Rattle.cipher.specs.Refusal.{refusalOrder}
-use Rattle.cipher.specs.Chain.{setTests, chainTests}
+use Rattle.cipher.specs.Chain.{setTests, chainTestsBy}
 use Rattle.cipher.specs.Answers.{keyTests, keyBlockTests, chainCheckTests}
 use Rattle.book.specs.Answers.{buildTests}
 use Rattle.pad.specs.Answers.{codingTests}
@@ -26,7 +26,7 @@ model-order (blockCall m) s = refl
 model-order (lastCall m k) s = refl
 
 pub order : Order
-unfolding follows standsIn standsBefore noneBefore setTests chainTests codingTests
+unfolding follows standsIn standsBefore noneBefore setTests chainTestsBy codingTests
 order = record {
   on-block = λ key b. in-order (keyBlockTests key b) refl;
   round-keys = λ key. in-order (keyTests key) refl;

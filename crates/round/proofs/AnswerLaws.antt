@@ -72,7 +72,7 @@ pub after-short : (z : KeySize) (key s : List ℕ) → length s < chainLength z 
 unfolding printedAfter printedOn
 after-short z key s h =
     let e : length (chainPart z s) ≡ length s = ap length (take-all (chainLength z) s (omega arith)) in
-    chain-length-refused (blockTests (blockPart z s)) refusedText (twoLines z key (chainPart z s) (blockPart z s)) z (chainPart z s) (λ d. omega arith)
+    chain-length-refused (blockTests (blockPart z s)) refusedText (twoLines z key (chainPart z s) (blockPart z s)) 0 3 z (chainPart z s) (λ d. omega arith)
 
 module _ (z : KeySize) (key ch s : List ℕ) where
   pub on-chain-refused : (q : ℕ) → q ≡ first (chainTests z ch) (λ n. n) 0 → (q ≡ 0 → ⊥) → printedOn z key ch s ≡ refusedText q
@@ -82,7 +82,7 @@ module _ (z : KeySize) (key ch s : List ℕ) where
   module _ (v : Chain z ch) where
     chained : printedOn z key ch s ≡ first (blockTests (take 16 s)) refusedText (twoLines z key ch (take 16 s))
     unfolding printedOn
-    chained = chain-taken (blockTests (take 16 s)) refusedText (twoLines z key ch (take 16 s)) z ch v
+    chained = chain-taken (blockTests (take 16 s)) refusedText (twoLines z key ch (take 16 s)) 0 3 z ch v
 
     pub on-block-short : length s < 16 → printedOn z key ch s ≡ refusedText 7
     on-block-short h =

@@ -34,7 +34,7 @@ module _ (z : KeySize) (key ch : List ℕ) (h : Ready z key ch) (l : ℕ) (b : l
   pub tables-built : (n : ℕ) (t u : List ℕ) → length t ≡ 18432 → (n, u) ≡ book.buildRoundAnswer key ch l t → u ≡ tablesOf z key ch l
   tables-built n t u e q =
       ap (λ (p : ℕ × List ℕ). p .1)
-      (q ∙ sym (built-done key ch t (λ z. 18432) (λ z. bookRound (rounds z) (keyRows z key) ch (l % rounds z)) z
+      (q ∙ sym (built-done 0 3 key ch t (λ z. 18432) (λ z. bookRound (rounds z) (keyRows z key) ch (l % rounds z)) z
       (ap sizeOfKey (h .0) ∙ size-of-key z) (h .1) (le-of-eq (sym e)) (bookRound (rounds z) (keyRows z key) ch (l % rounds z)) refl))
       ∙ grown-whole (bookRound (rounds z) (keyRows z key) ch (l % rounds z)) t 18432 (le-of-eq e)
       ∙ ap (tablesOf z key ch) (mod-eq-of-lt b)

@@ -32,7 +32,7 @@ module _ (z : KeySize) (key ch : List ℕ) (v : Chain z ch) where
   opened-lea b n h =
       rounds-law (rounds z) (chainSet ch) (roundCodings (rounds z) ch) (keyRows z key) (tablesOf z key ch)
       (λ l. unfold roundCodings in refl) (λ l. unfold roundCodings in refl)
-      (valid-round (rounds z) ch (v .codings) (v .word3) (v .masks)) tables-are b n h (v .codings .sets n h)
+      (valid-round (rounds z) ch (v .codings) (v .words) (v .masks)) tables-are b n h (v .codings .sets n h)
 
   pub lines-lea : (b : List ℕ)
       → twoLines z key ch b

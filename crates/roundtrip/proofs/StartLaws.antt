@@ -14,7 +14,7 @@ use Rattle.lists.specs.Refusals.{first}
 use Rattle.lists.proofs.RefusalLaws.{Clear, first-clear, first-map}
 use Rattle.cipher.specs.KeySize.{rounds, bookLength, sizeOfKey}
 use Rattle.cipher.specs.Lea.{keyRows}
-use Rattle.cipher.specs.Chain.{chainTests}
+use Rattle.cipher.specs.Chain.{chainTestsBy}
 use Rattle.cipher.specs.Answers.{keySize}
 use Rattle.cipher.specs.Refusal.{numberOf, outcomeOf}
 use Rattle.cipher.specs.declared.size.KeySize.{KeySize}
@@ -53,7 +53,7 @@ is-told Unknown = 0
 
 module _ (key ch bk : List ℕ) where
   pub build-numbered : Numbered (buildCallTests key ch bk)
-  unfolding chainTests
+  unfolding chainTestsBy
   build-numbered = (lit< tt, (lit< tt, (lit< tt, (lit< tt, (lit< tt, (lit< tt, tt))))))
 
   answer-is : buildAnswer key ch bk ≡ first (buildCallTests key ch bk) (λ q. (q, bk)) (0, over (keyBook key ch) bk)
@@ -149,7 +149,7 @@ module _ (key ch bk : List ℕ) where
 
       module _ (n : ℕ) (k : n ≡ bookLength z) where
         pub book-fits : n ≤ length bk
-        unfolding chainTests
+        unfolding chainTestsBy
         book-fits =
             let w : n ≡ bookLength (keySize key) = k ∙ ap bookLength size-is in
             omega (arith, ltb-false (length bk) (bookLength (keySize key)) (clear .0 .1 .1 .1 .1 .1 .0))

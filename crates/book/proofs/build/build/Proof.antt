@@ -7,12 +7,13 @@ use borrow.Author.Needs.{needs}
 use Rattle.cipher.specs.KeySize.{keyLength, rounds, bookLength}
 use Rattle.cipher.specs.Book.{bookOf}
 use Rattle.cipher.proofs.KeySizeLaws.{found-length}
-use Rattle.book.proofs.AnswerLaws.{checked-valid, built-key, built-chain, built-room, built-front, room-length}
+use Rattle.cipher.proofs.CheckLaws.{chain-checked}
+use Rattle.book.proofs.AnswerLaws.{built-key, built-chain, built-room, built-front, room-length}
 use Rattle.book.proofs.build.build.Statement.{statement}
 use Rattle.book.proofs.build.build.Tie as tie
 
 returns : tie.Need-returns
-returns c = sym (built-key _ _ _ _ _ (sym (c .before .before .of-key-len .ensures) ∙ c .enum-told .given .1))
+returns c = sym (built-key _ _ _ _ _ _ _ (sym (c .before .before .of-key-len .ensures) ∙ c .enum-told .given .1))
 
 returns-2 : tie.Need-returns-2
 returns-2 c =
@@ -20,7 +21,7 @@ returns-2 c =
     let at-size = at-check-sized .before .before in
     let at-of-key-len = at-size .before .before in
     let known = sym (at-of-key-len .of-key-len .ensures) ∙ at-size .size .given .1 in
-    sym (built-chain _ _ _ _ _ (at-size .size .given .0 .0) known _ _ (at-check-sized .check-sized .ensures) (c .before .number .ensures) (c .if1 .taken))
+    sym (built-chain _ _ _ _ _ _ _ (at-size .size .given .0 .0) known _ _ (at-check-sized .check-sized .ensures) (c .before .number .ensures) (c .if1 .taken))
 
 returns-3 : tie.Need-returns-3
 returns-3 c =
@@ -32,8 +33,8 @@ returns-3 c =
     let b = c .before .book-len .ensures in
     let known = sym (at-of-key-len .of-key-len .ensures) ∙ at-size .size .given .1 in
     let z = at-size .size .given .0 .0 in
-    let valid = checked-valid z _ (sym (at-check-sized .check-sized .ensures) ∙ sym (at-number .number .ensures) ∙ at-if1 .if1 .left) in
-    sym (built-room _ _ _ _ _ z known valid (omega arith))
+    let valid = chain-checked z _ (sym (at-check-sized .check-sized .ensures) ∙ sym (at-number .number .ensures) ∙ at-if1 .if1 .left) in
+    sym (built-room _ _ _ _ _ _ _ z known valid (omega arith))
 
 key-rows-requires : tie.Need-key-rows-requires
 key-rows-requires c κs =
@@ -51,7 +52,7 @@ fill-requires c κs =
     let e = at-size .before .before .before .before .before .before in
     let b = at-book-len .book-len .ensures in
     let z = at-size .size .given .0 .0 in (
-      checked-valid z _ (sym (at-check-sized .check-sized .ensures) ∙ sym (at-number .number .ensures) ∙ at-if1 .if1 .left),
+      chain-checked z _ (sym (at-check-sized .check-sized .ensures) ∙ sym (at-number .number .ensures) ∙ at-if1 .if1 .left),
       room-length (at-book-len .book-len .result) (bookLength z) (e .args .out .now) b (omega arith),
     )
 
@@ -68,8 +69,8 @@ returns-4 c =
     let e = at-of-key-len .before .before .before .before in
     let z = at-size .size .given .0 .0 in
     let b = at-book-len .book-len .ensures in
-    built-front _ _ _ _ _ z (sym (at-of-key-len .of-key-len .ensures) ∙ at-size .size .given .1)
-    (checked-valid (at-size .size .given .0 .0) _ (sym (at-check-sized .check-sized .ensures) ∙ sym (at-number .number .ensures) ∙ at-if1 .if1 .left))
+    built-front _ _ _ _ _ _ _ z (sym (at-of-key-len .of-key-len .ensures) ∙ at-size .size .given .1)
+    (chain-checked (at-size .size .given .0 .0) _ (sym (at-check-sized .check-sized .ensures) ∙ sym (at-number .number .ensures) ∙ at-if1 .if1 .left))
     (omega arith) (at-book-len .book-len .result) b _
     (at-fill .fill .ensures ∙ ap (λ (rows : List (List ℕ)). bookOf (rounds z) rows (e .args .chain .now)) (at-key-rows .key-rows .ensures))
 

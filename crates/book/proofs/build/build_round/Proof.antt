@@ -5,12 +5,13 @@ use borrow.Author.Needs.{needs}
 use lib.Seq.{length-take-le}
 use Rattle.cipher.specs.KeySize.{keyLength, rounds}
 use Rattle.cipher.proofs.KeySizeLaws.{found-length, rounds-le, rounds-more}
-use Rattle.book.proofs.AnswerLaws.{checked-valid, built-key, built-chain, built-room, built-done, round-below, round-is}
+use Rattle.cipher.proofs.CheckLaws.{chain-checked}
+use Rattle.book.proofs.AnswerLaws.{built-key, built-chain, built-room, built-done, round-below, round-is}
 use Rattle.book.proofs.build.build_round.Statement.{statement}
 use Rattle.book.proofs.build.build_round.Tie as tie
 
 returns : tie.Need-returns
-returns c = sym (built-key _ _ _ _ _ (sym (c .before .before .of-key-len .ensures) ∙ c .enum-told .given .1))
+returns c = sym (built-key _ _ _ _ _ _ _ (sym (c .before .before .of-key-len .ensures) ∙ c .enum-told .given .1))
 
 returns-2 : tie.Need-returns-2
 returns-2 c =
@@ -18,7 +19,7 @@ returns-2 c =
     let at-size = at-check-sized .before .before in
     let at-of-key-len = at-size .before .before in
     let known = sym (at-of-key-len .of-key-len .ensures) ∙ at-size .size .given .1 in
-    sym (built-chain _ _ _ _ _ (at-size .size .given .0 .0) known _ _ (at-check-sized .check-sized .ensures) (c .before .number .ensures) (c .if1 .taken))
+    sym (built-chain _ _ _ _ _ _ _ (at-size .size .given .0 .0) known _ _ (at-check-sized .check-sized .ensures) (c .before .number .ensures) (c .if1 .taken))
 
 returns-3 : tie.Need-returns-3
 returns-3 c =
@@ -28,8 +29,8 @@ returns-3 c =
     let at-of-key-len = at-size .before .before in
     let known = sym (at-of-key-len .of-key-len .ensures) ∙ at-size .size .given .1 in
     let z = at-size .size .given .0 .0 in
-    let valid = checked-valid z _ (sym (at-check-sized .check-sized .ensures) ∙ sym (at-number .number .ensures) ∙ c .before .if1 .left) in
-    sym (built-room _ _ _ _ _ z known valid (c .if2 .taken))
+    let valid = chain-checked z _ (sym (at-check-sized .check-sized .ensures) ∙ sym (at-number .number .ensures) ∙ c .before .if1 .left) in
+    sym (built-room _ _ _ _ _ _ _ z known valid (c .if2 .taken))
 
 key-rows-requires : tie.Need-key-rows-requires
 key-rows-requires c κs =
@@ -65,7 +66,7 @@ round-at-requires c κs =
     let at-check-sized = at-number .before in
     let at-size = at-check-sized .before .before in
     let e = at-size .before .before .before .before .before .before in (
-      checked-valid (at-size .size .given .0 .0) _ (sym (at-check-sized .check-sized .ensures) ∙ sym (at-number .number .ensures) ∙ at-if1 .if1 .left),
+      chain-checked (at-size .size .given .0 .0) _ (sym (at-check-sized .check-sized .ensures) ∙ sym (at-number .number .ensures) ∙ at-if1 .if1 .left),
       round-below (at-size .size .given .0 .0) (e .args .l) (at-rounds .rounds .result) (at-rounds .rounds .ensures),
       length-take-le 18432 (e .args .out .now) (omega arith),
     )
@@ -82,8 +83,8 @@ returns-4 c =
     let at-of-key-len = at-size .before .before in
     let e = at-of-key-len .before .before .before .before in
     let z = at-size .size .given .0 .0 in
-    built-done _ _ _ _ _ z (sym (at-of-key-len .of-key-len .ensures) ∙ at-size .size .given .1)
-    (checked-valid (at-size .size .given .0 .0) _ (sym (at-check-sized .check-sized .ensures) ∙ sym (at-number .number .ensures) ∙ at-if1 .if1 .left))
+    built-done _ _ _ _ _ _ _ z (sym (at-of-key-len .of-key-len .ensures) ∙ at-size .size .given .1)
+    (chain-checked (at-size .size .given .0 .0) _ (sym (at-check-sized .check-sized .ensures) ∙ sym (at-number .number .ensures) ∙ at-if1 .if1 .left))
     (omega arith) _
     (round-is z (e .args .key .now) (e .args .chain .now) _ _ (e .args .l) _ (at-rounds .rounds .ensures) (at-key-rows .key-rows .ensures) (at-round-at .round-at .ensures))
 
