@@ -1,0 +1,10 @@
+pub mod TurnsBack
+pub mod Complements
+pub mod ReadingTableLaws
+pub mod ReadingRoundLaw
+pub mod ReadingRoundsLaw
+pub mod ReadingChainLaws
+pub mod ReadingBookLaw
+pub mod ShownTheorem
+pub mod ReadLoop
+pub mod Examples

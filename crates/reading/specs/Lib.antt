@@ -1,0 +1,5 @@
+pub mod Lengths
+pub mod Tables
+pub mod Chain
+pub mod Book
+pub mod Shown
