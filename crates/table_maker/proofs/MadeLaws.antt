@@ -16,7 +16,7 @@ use Rattle.cipher.specs.Coding.{blockHalf}
 use Rattle.cipher.specs.Tables.{upper, lower}
 use Rattle.cipher.specs.Chain.{maskInto, maskOutOf}
 use Rattle.table_maker.specs.Rows.{tableBy, TableFits}
-use Rattle.table_maker.specs.Made.{keyedBy, summands, sumEntries, madeAdd, upperPart, lowerPart, upperParts, lowerParts, madeTurn, madeFold}
+use Rattle.table_maker.specs.Made.{keyedBy, summands, sumEntries, madeAdd, upperPart, lowerPart, upperParts, lowerParts, turnedRows, madeTurn, madeFold}
 use Rattle.table_maker.proofs.RowLaws.{length-table}
 
 -- ---- lengths
@@ -116,8 +116,8 @@ mask-after R p = ap (λ (k : ℕ). getD R (384 + (8 * (p / 8) + k)) 0) (omega ar
 
 -- ---- a table from its prepared parts a, b and e: the look-ups stay inside e, and it is the table that is named
 
-module _ (s a b e : List ℕ) (n k l m : ℕ) (at at' : ℕ) (f : ℕ → ℕ) (ea : a ≡ tab 32 (summands s at k m)) (eb : b ≡ tab 16 (keyedBy s at' l))
-    (ee : e ≡ tab 32 f) (h : Below 16 s) (hk : k < 16) (hl : l < 16) (hm : m < 2) (room : n ≡ 512) where
+module _ (s t a b e : List ℕ) (n k l m : ℕ) (at at' : ℕ) (f : ℕ → ℕ) (ea : a ≡ tab 32 (summands s at k m)) (eb : b ≡ tab 16 (keyedBy t at' l))
+    (ee : e ≡ tab 32 f) (h : Below 16 s) (ht : Below 16 t) (hk : k < 16) (hl : l < 16) (hm : m < 2) (room : n ≡ 512) where
   pub add-fits : (16 ≤ length b) × (n ≡ length a * 16) × TableFits _+_ e a b
   add-fits = (omega (arith, lb), omega (arith, la), λ x hx q hq. fit x q (omega (arith, la)) hq)
     where
@@ -125,7 +125,7 @@ module _ (s a b e : List ℕ) (n k l m : ℕ) (at at' : ℕ) (f : ℕ → ℕ) (
       la = ap length ea ∙ length-tab 32 (summands s at k m)
 
       lb : length b ≡ 16
-      lb = ap length eb ∙ length-tab 16 (keyedBy s at' l)
+      lb = ap length eb ∙ length-tab 16 (keyedBy t at' l)
 
       le : length e ≡ 32
       le = ap length ee ∙ length-tab 32 f
@@ -133,9 +133,9 @@ module _ (s a b e : List ℕ) (n k l m : ℕ) (at at' : ℕ) (f : ℕ → ℕ) (
       fit : (x q : ℕ) → x < 32 → q < 16 → getD a x 0 + getD b q 0 < length e
       fit x q hx hq =
           let p = ap (λ (v : List ℕ). getD v x 0) ea ∙ getD-tab 32 (summands s at k m) x hx in
-          let r = ap (λ (v : List ℕ). getD v q 0) eb ∙ getD-tab 16 (keyedBy s at' l) q hq in
+          let r = ap (λ (v : List ℕ). getD v q 0) eb ∙ getD-tab 16 (keyedBy t at' l) q hq in
           let u = xor-lt 4 (getD s (at + x % 16) 0) k (h (at + x % 16)) hk in
-          let v = xor-lt 4 (getD s (at' + q) 0) l (h (at' + q)) hl in
+          let v = xor-lt 4 (getD t (at' + q) 0) l (ht (at' + q)) hl in
           let w = xor-lt 1 (x / 16) m (omega arith) hm in
           omega (arith, p, r, u, v, w, le)
 
@@ -145,8 +145,8 @@ pub add-made : (s R K a b e : List ℕ) (p k l m : ℕ) → a ≡ tab 32 (summan
 unfolding madeAdd
 add-made s R K a b e p k l m ea eb ee em ek el = rw (ea, eb, ee, em, ek, el)
 
-module _ (s S a b e : List ℕ) (n i at at' o : ℕ) (ea : a ≡ tab 16 (upperParts s at i)) (eb : b ≡ tab 16 (lowerParts s at' i)) (ee : e ≡ drop o S)
-    (h : Below 16 s) (far : o + 16 ≤ length S) (room : n ≡ 256) where
+module _ (s a b e : List ℕ) (n i at at' : ℕ) (ea : a ≡ tab 16 (upperParts s at i)) (eb : b ≡ tab 16 (lowerParts s at' i))
+    (h : Below 16 s) (far : 16 ≤ length e) (room : n ≡ 256) where
   pub turn-fits : (16 ≤ length b) × (n ≡ length a * 16) × TableFits _+_ e a b
   turn-fits = (omega (arith, lb), omega (arith, la), λ x hx q hq. fit x q (omega (arith, la)) hq)
     where
@@ -156,20 +156,18 @@ module _ (s S a b e : List ℕ) (n i at at' o : ℕ) (ea : a ≡ tab 16 (upperPa
       lb : length b ≡ 16
       lb = ap length eb ∙ length-tab 16 (lowerParts s at' i)
 
-      le : length e ≡ length S - o
-      le = ap length ee ∙ length-drop o S
-
       fit : (x q : ℕ) → x < 16 → q < 16 → getD a x 0 + getD b q 0 < length e
       fit x q hx hq =
           let p = ap (λ (v : List ℕ). getD v x 0) ea ∙ getD-tab 16 (upperParts s at i) x hx in
           let r = ap (λ (v : List ℕ). getD v q 0) eb ∙ getD-tab 16 (lowerParts s at' i) q hq in
           let u = parts-lt i (getD s (at + x) 0) (getD s (at' + q) 0) (h (at' + q)) in
-          omega (arith, p, r, u, le)
+          omega (arith, p, r, u)
 
-pub turn-made : (s S a b e : List ℕ) (p x y : ℕ) → a ≡ tab 16 (upperParts s x (p / 8)) → b ≡ tab 16 (lowerParts s y (p / 8)) → e ≡ drop (16 * p) S
-    → x ≡ 16 * (8 * (p / 8) + upper (p / 8) (p % 8)) → y ≡ 16 * (8 * (p / 8) + lower (p / 8) (p % 8)) → tableBy _+_ e a b ≡ madeTurn s S p
+-- x and y are the places of the two half bytes
+pub turn-made : (s S e : List ℕ) (p x y : ℕ) → e ≡ drop (16 * p) S → x ≡ 16 * (8 * (p / 8) + upper (p / 8) (p % 8))
+    → y ≡ 16 * (8 * (p / 8) + lower (p / 8) (p % 8)) → turnedRows s x y (p / 8) e ≡ madeTurn s S p
 unfolding madeTurn
-turn-made s S a b e p x y ea eb ee ex ey = rw (ea, eb, ee, ex, ey)
+turn-made s S e p x y ee ex ey = rw (ee, ex, ey)
 
 module _ (s u S a b e : List ℕ) (n k at : ℕ) (ea : a ≡ tab 16 (keyedBy s at k)) (eb : b ≡ drop at u) (ee : e ≡ drop at S)
     (h : Below 16 s) (hu : Below 16 u) (hk : k < 16) (near : at + 16 ≤ length u) (far : at + 16 ≤ length S) (room : n ≡ 256) where

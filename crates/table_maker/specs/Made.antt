@@ -23,6 +23,7 @@ pub record RoundBytes (R : List ℕ) : Type 0 where
 -- bytes for the round; valid as in a valid chain
 pub record RoundReady (B A R : List ℕ) : Type 0 where
   pub before : FirstPermutations 32 B
+  pub after : FirstPermutations 32 A
   pub middles : FirstPermutations 24 R
   pub masks : (k : ℕ) → middlesLength ≤ k → k < roundCodingsLength → getD R k 0 < 2
   pub roomBefore : setLength ≤ length B
@@ -77,11 +78,16 @@ upperParts s at i q = upperPart i (getD s (at + q) 0)
 abbrev pub lowerParts : List ℕ → ℕ → ℕ → ℕ → ℕ
 lowerParts s at i q = lowerPart i (getD s (at + q) 0)
 
+-- a turn table from the codings that s has inverted at two places, the upper one and the lower one, cut as those of sum i; e begins with
+-- the coding of the turned half byte
+abbrev pub turnedRows : List ℕ → ℕ → ℕ → ℕ → List ℕ → List ℕ
+turnedRows s at at' i e = tableBy _+_ e (tab 16 (upperParts s at i)) (tab 16 (lowerParts s at' i))
+
 -- s has the middle codings inverted, and S begins with the set after the round
 unfoldable pub madeTurn : List ℕ → List ℕ → ℕ → List ℕ
 madeTurn s S p =
-    tableBy _+_ (drop (codingLength * p) S) (tab 16 (upperParts s (codingLength * (8 * (p / 8) + upper (p / 8) (p % 8))) (p / 8)))
-    (tab 16 (lowerParts s (codingLength * (8 * (p / 8) + lower (p / 8) (p % 8))) (p / 8)))
+    turnedRows s (codingLength * (8 * (p / 8) + upper (p / 8) (p % 8))) (codingLength * (8 * (p / 8) + lower (p / 8) (p % 8))) (p / 8)
+    (drop (codingLength * p) S)
 
 -- ---- fold tables: s and u have the sets that are folded from inverted, and S begins with the set that is folded to
 

@@ -42,7 +42,7 @@ fn summand(u: u8, k: u8, c: usize, m: u8) -> u8
 }
 
 // The summands of the rows of an add table: without a carry, then with one.
-fn row_summands(s: &[u8], at: usize, k: u8, m: u8) -> [u8; 32]
+pub fn row_summands(s: &[u8], at: usize, k: u8, m: u8) -> [u8; 32]
     requires { ⌜ (at + codingLength ≤ length (now s)) × Below 16 (now s) × (k < 16) × (m < 2) ⌝ }
     ensures { λ r. ⌜ r ≡ tab 32 (summands (now (s .entry)) at k m) ⌝ }
 {
@@ -54,7 +54,7 @@ fn row_summands(s: &[u8], at: usize, k: u8, m: u8) -> [u8; 32]
 }
 
 // The mask of the carry into half byte p of a round's sums: none into the lowest of a word.
-fn mask_in(round: &[u8], p: usize) -> u8
+pub fn mask_in(round: &[u8], p: usize) -> u8
     requires { ⌜ (p < 24) × RoundBytes (now round) ⌝ }
     ensures { λ r. ⌜ (r ≡ maskInto (now (round .entry)) (p / 8) (p % 8)) × (r < 2) ⌝ }
 {
@@ -74,7 +74,7 @@ fn mask_out(round: &[u8], p: usize) -> u8
 }
 
 // The carry c out of half byte p, under its mask; at the top none is written.
-fn carry_out(round: &[u8], p: usize, c: usize) -> u8
+pub fn carry_out(round: &[u8], p: usize, c: usize) -> u8
     requires { ⌜ (p < 24) × (c < 2) × RoundBytes (now round) ⌝ }
     ensures { λ r. ⌜ (r ≡ carryHeld (p % 8) c (maskOutOf (now (round .entry)) (p / 8) (p % 8))) × (r < 2) ⌝ }
 {
@@ -85,7 +85,7 @@ fn carry_out(round: &[u8], p: usize, c: usize) -> u8
 }
 
 // The entry of a sum: its carry and its half byte, coded.
-fn entry(g: u8, c: u8) -> u8
+pub fn entry(g: u8, c: u8) -> u8
     requires { ⌜ (g < 16) × (c < 2) ⌝ }
     ensures { λ r. ⌜ r ≡ 16 * c + g ⌝ }
 {

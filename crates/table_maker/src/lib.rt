@@ -2,5 +2,5 @@
 // they take in and give. The inner part of building a book.
 pub mod adds;
 pub mod folds;
-mod rows;
+pub mod rows;
 pub mod turns;

@@ -6,7 +6,7 @@ ghost use Rattle.cipher.specs.Lengths.{middlesLength, turnLength, codingLength}
 ghost use Rattle.lists.specs.Tabulation.{tab, chunks};
 ghost use Rattle.lists.specs.Blocks.{Below};
 ghost use Rattle.cipher.specs.Tables.{upper, lower};
-ghost use Rattle.table_maker.specs.Made.{upperPart, lowerPart, upperParts, lowerParts, madeTurn};
+ghost use Rattle.table_maker.specs.Made.{upperPart, lowerPart, upperParts, lowerParts, turnedRows, madeTurn};
 use crate::rows::sum_table;
 use cipher::lengths;
 
@@ -58,6 +58,17 @@ fn lower_parts(s: &[u8], at: usize, i: usize) -> [u8; 16]
     b
 }
 
+// A turn table: s has inverted codings, those of the upper and of the lower half byte at two places,
+// cut as those of sum i; the coding of the turned half byte is in the front of coding.
+pub fn turned_table(s: &[u8], upper: usize, lower: usize, i: usize, coding: &[u8], out: &mut [u8])
+    requires { ⌜ (upper + codingLength ≤ length (now s)) × (lower + codingLength ≤ length (now s)) × Below 16 (now s) × (codingLength ≤ length (now coding)) × (length (now out) ≡ turnLength) ⌝ }
+    ensures { λ _. ⌜ now (out .exit) ≡ turnedRows (now (s .entry)) upper lower i (now (coding .entry)) ⌝ }
+{
+    let a = upper_parts(s, upper, i);
+    let b = lower_parts(s, lower, i);
+    sum_table(coding, &a, &b, out);
+}
+
 // Where the middle codings of those two half bytes stand.
 fn upper_at(i: usize, j: usize) -> usize
     requires { ⌜ (i < 3) × (j < 8) ⌝ }
@@ -80,10 +91,8 @@ fn turn_table(s: &[u8], after: &[u8], p: usize, out: &mut [u8])
 {
     let i = p / lengths::HALVES;
     let j = p % lengths::HALVES;
-    let a = upper_parts(s, upper_at(i, j), i);
-    let b = lower_parts(s, lower_at(i, j), i);
     let at = lengths::CODING * p;
-    sum_table(&after[at..], &a, &b, out);
+    turned_table(s, upper_at(i, j), lower_at(i, j), i, &after[at..], out);
 }
 
 // The turn tables of a round.

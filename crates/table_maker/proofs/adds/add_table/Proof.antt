@@ -16,8 +16,8 @@ sum-table-requires c κs =
     let k = c .before .before .before .before .before in
     let r = k .before .before in
     let e = r .before .before .before .before .before .before in
-    add-fits (e .args .s .now) _ _ _ _ _ _ _ _ _ _ (r .row-summands .ensures) (k .keyed .ensures) (c .before .before .before .before .sum-entries .ensures)
-    (e .pre .2) (r .before .before .half .ensures .1) (k .before .half2 .ensures .1) (r .before .mask-in .ensures .1) (e .pre .4)
+    add-fits (e .args .s .now) (e .args .s .now) _ _ _ _ _ _ _ _ _ _ (r .row-summands .ensures) (k .keyed .ensures) (c .before .before .before .before .sum-entries .ensures)
+    (e .pre .2) (e .pre .2) (r .before .before .half .ensures .1) (k .before .half2 .ensures .1) (r .before .mask-in .ensures .1) (e .pre .4)
 
 returns : tie.Need-returns
 returns c =
