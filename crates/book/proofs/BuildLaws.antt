@@ -21,19 +21,19 @@ use Rattle.cipher.specs.Coding.{FirstPermutations, codingAt, setOf, decode, inv
 use Rattle.cipher.specs.Tables.{addEntry, addSum, addTable, turned, upper, lower, turnTable, foldTable}
 use Rattle.cipher.specs.KeySize.{rounds}
 use Rattle.cipher.specs.Lengths.{addLength, turnLength, foldLength}
-use Rattle.cipher.specs.Chain.{Chain, roundBytes, maskInto, maskOutOf, roundCodings}
+use Rattle.cipher.specs.Chain.{ChainBy, roundBytes, maskInto, maskOutOf, roundCodings}
 use Rattle.cipher.specs.declared.size.KeySize.{KeySize}
 use Rattle.cipher.specs.Book.{twoKinds, roundPart, groupPart}
 use Rattle.cipher.proofs.Permutation.{decode-lt}
 use Rattle.cipher.proofs.InverseLaws.{length-inverted, inverted-at}
 use Rattle.cipher.proofs.TableLaws.{add-rows, turn-rows, fold-rows}
 use Rattle.table_maker.specs.Rows.{rowBy, tableBy}
-use Rattle.table_maker.specs.Made.{RoundBytes, RoundReady, codingsOf, keyedBy, summands, sumEntries, madeAdd, upperPart, lowerPart, upperParts, lowerParts, madeTurn, madeFold}
+use Rattle.table_maker.specs.Made.{RoundBytes, RoundReady, codingsOf, keyedBy, summands, sumEntries, madeAdd, upperPart, lowerPart, upperParts, lowerParts, turnedRows, madeTurn, madeFold}
 use Rattle.table_maker.proofs.MadeLaws.{length-add, length-turn}
 
 -- ---- tables by their entries
 
-table-is : (op : ℕ → ℕ → ℕ) (E : List ℕ) (n : ℕ) (a : ℕ → ℕ) (B : List ℕ) (g : ℕ → ℕ → ℕ)
+pub table-is : (op : ℕ → ℕ → ℕ) (E : List ℕ) (n : ℕ) (a : ℕ → ℕ) (B : List ℕ) (g : ℕ → ℕ → ℕ)
     → ((x q : ℕ) → x < n → q < 16 → getD E (op (a x) (getD B q 0)) 0 ≡ g x q) → tableBy op E (tab n a) B ≡ chunks n (λ x. tab 16 (g x))
 unfolding tableBy rowBy
 table-is op E n a B g h =
@@ -43,7 +43,7 @@ table-is op E n a B g h =
     ap (λ (y : ℕ). getD E (op y (getD B q 0)) 0) (getD-tab n a x hx) ∙ h x q hx hq))
 
 -- the same where the places' operands are tabulated too
-both-tabled : (op : ℕ → ℕ → ℕ) (E : List ℕ) (n : ℕ) (a b : ℕ → ℕ) (g : ℕ → ℕ → ℕ)
+pub both-tabled : (op : ℕ → ℕ → ℕ) (E : List ℕ) (n : ℕ) (a b : ℕ → ℕ) (g : ℕ → ℕ → ℕ)
     → ((x q : ℕ) → x < n → q < 16 → getD E (op (a x) (b q)) 0 ≡ g x q) → tableBy op E (tab n a) (tab 16 b) ≡ chunks n (λ x. tab 16 (g x))
 both-tabled op E n a b g h =
     table-is op E n a (tab 16 b) g (λ x q hx hq. ap (λ (y : ℕ). getD E (op (a x) y) 0) (getD-tab 16 b q hq) ∙ h x q hx hq)
@@ -92,38 +92,33 @@ lower-lt zero j h = omega arith
 lower-lt (suc zero) j h = omega arith
 lower-lt (suc (suc i)) j h = h
 
--- an add table, for p = 8i + j
-module _ (B R : List ℕ) (before : FirstPermutations 32 B) (p i j k l m m' : ℕ) (hi : i < 3) (hj : j < 8) (hk : k < 16) (hl : l < 16) (hm : m < 2)
-    (e : 8 * i + j ≡ p) (entry : ℕ → ℕ) where
-  add-at : (x q : ℕ) → x < 32 → q < 16
-      → getD (tab 32 entry) (summands (inverted 32 B) (16 * p) k m x + keyedBy (inverted 32 B) (16 * p + 128) l q) 0
-      ≡ entry (keyedBy (inverted 32 B) (16 * p) k (x % 16) + keyedBy (inverted 32 B) (16 * p + 128) l q + bitXor (x / 16) m)
-  add-at x q hx hq =
-      let low = inverse-below 32 B before in
-      let a = xor-lt 4 (getD (inverted 32 B) (16 * p + x % 16) 0) k (low (16 * p + x % 16)) hk in
-      let b = xor-lt 4 (getD (inverted 32 B) (16 * p + 128 + q) 0) l (low (16 * p + 128 + q)) hl in
-      let c = xor-lt 1 (x / 16) m (omega arith) hm in
-      let d : summands (inverted 32 B) (16 * p) k m x + keyedBy (inverted 32 B) (16 * p + 128) l q
-      ≡ keyedBy (inverted 32 B) (16 * p) k (x % 16) + keyedBy (inverted 32 B) (16 * p + 128) l q + bitXor (x / 16) m = omega arith in
-      ap (λ (n : ℕ). getD (tab 32 entry) n 0) d
-      ∙ getD-tab 32 entry (keyedBy (inverted 32 B) (16 * p) k (x % 16) + keyedBy (inverted 32 B) (16 * p + 128) l q + bitXor (x / 16) m) (omega arith)
+-- a table of sums: s has the rows' operands, t those of the places, each from a place on
+module _ (s t : List ℕ) (at at' k l m : ℕ) (hs : Below 16 s) (ht : Below 16 t) (hk : k < 16) (hl : l < 16) (hm : m < 2) (entry : ℕ → ℕ) where
+  abbrev sumOf : ℕ → ℕ → ℕ
+  sumOf x q = keyedBy s at k (x % 16) + keyedBy t at' l q + bitXor (x / 16) m
 
-  add-rows-are : (h : ℕ → ℕ) → ((n : ℕ) → n < 32 → addEntry j h m' n ≡ entry n)
-      → tableBy _+_ (tab 32 entry) (tab 32 (summands (inverted 32 B) (16 * p) k m)) (tab 16 (keyedBy (inverted 32 B) (16 * p + 128) l))
-      ≡ tab 512 (λ n. addEntry j h m' (addSum (codingAt B (8 * i + j)) (codingAt B (8 * suc i + j)) k l m n))
-  add-rows-are h same =
-      both-tabled _+_ (tab 32 entry) 32 (summands (inverted 32 B) (16 * p) k m) (keyedBy (inverted 32 B) (16 * p + 128) l)
-      (λ x q. entry (keyedBy (inverted 32 B) (16 * p) k (x % 16) + keyedBy (inverted 32 B) (16 * p + 128) l q + bitXor (x / 16) m)) add-at
-      ∙ sym (add-rows (codingAt B (8 * i + j)) (codingAt B (8 * suc i + j)) h j k l m m'
-      (before (8 * i + j) (omega arith)) (before (8 * suc i + j) (omega arith)) hk hl hm
-      (keyedBy (inverted 32 B) (16 * p) k) (keyedBy (inverted 32 B) (16 * p + 128) l) entry
-      (λ v hv. ap (λ (y : ℕ). bitXor y k) (inverse-at 32 B (16 * p + v) (8 * i + j) v (omega arith) hv (omega arith)))
-      (λ v hv. ap (λ (y : ℕ). bitXor y l) (inverse-at 32 B (16 * p + 128 + v) (8 * suc i + j) v (omega arith) hv (omega arith)))
-      same)
+  sum-at : (x q : ℕ) → x < 32 → q < 16 → getD (tab 32 entry) (summands s at k m x + keyedBy t at' l q) 0 ≡ entry (sumOf x q)
+  sum-at x q hx hq =
+      let a = xor-lt 4 (getD s (at + x % 16) 0) k (hs (at + x % 16)) hk in
+      let b = xor-lt 4 (getD t (at' + q) 0) l (ht (at' + q)) hl in
+      let c = xor-lt 1 (x / 16) m (omega arith) hm in
+      let d : summands s at k m x + keyedBy t at' l q ≡ sumOf x q = omega arith in
+      ap (λ (n : ℕ). getD (tab 32 entry) n 0) d ∙ getD-tab 32 entry (sumOf x q) (omega arith)
+
+  pub sums-are : tableBy _+_ (tab 32 entry) (tab 32 (summands s at k m)) (tab 16 (keyedBy t at' l)) ≡ chunks 32 (λ x. tab 16 (λ q. entry (sumOf x q)))
+  sums-are = both-tabled _+_ (tab 32 entry) 32 (summands s at k m) (keyedBy t at' l) (λ x q. entry (sumOf x q)) sum-at
+
+-- a table of turned half bytes: s has the operands, from two places on, and the turned ones are coded by coding p of F
+pub turned-are : (s F : List ℕ) (at at' i p o : ℕ) → Below 16 s → o ≡ 16 * p
+    → turnedRows s at at' i (drop o F) ≡ chunks 16 (λ x. tab 16 (λ q. codingAt F p (turned i (getD s (at + x) 0) (getD s (at' + q) 0))))
+turned-are s F at at' i p o h e =
+    both-tabled _+_ (drop o F) 16 (upperParts s at i) (lowerParts s at' i) (λ x q. codingAt F p (turned i (getD s (at + x) 0) (getD s (at' + q) 0))) (λ x q hx hq.
+    getD-drop o F (upperParts s at i x + lowerParts s at' i q) 0
+    ∙ ap₂ (λ (y z : ℕ). getD F (y + z) 0) e (parts-turn i (getD s (at + x) 0) (getD s (at' + q) 0) (h (at' + q))))
 
 module _ (B A R K : List ℕ) (ready : RoundReady B A R) where
   -- the mask of a carry in is a bit
-  mask-bit : (i j : ℕ) → i < 3 → j < 8 → maskInto R i j < 2
+  pub mask-bit : (i j : ℕ) → i < 3 → j < 8 → maskInto R i j < 2
   mask-bit i zero hi hj = lit< tt
   mask-bit i (suc j) hi hj = ready .masks (384 + (8 * i + suc j)) (omega arith) (omega arith)
 
@@ -135,27 +130,30 @@ module _ (B A R K : List ℕ) (ready : RoundReady B A R) where
       let e : 8 * i + j ≡ p = omega arith in
       let k = halfByte (getD K (2 * i) 0) j in
       let l = halfByte (getD K (2 * i + 1) 0) j in
-      add-rows-are B R (ready .before) p i j k l (maskInto R i j) (maskOutOf R i j) (omega arith) (omega arith)
-      (half-lt (getD K (2 * i) 0) j) (half-lt (getD K (2 * i + 1) 0) j) (mask-bit i j (omega arith) (omega arith)) e (sumEntries R p) (codingAt R (8 * i + j))
-      (λ v hv. ap (λ (y : ℕ). addEntry j (codingAt R y) (maskOutOf R i j) v) e)
+      let hk = half-lt (getD K (2 * i) 0) j in
+      let hl = half-lt (getD K (2 * i + 1) 0) j in
+      let hm = mask-bit i j (omega arith) (omega arith) in
+      let low = inverse-below 32 B (ready .before) in
+      sums-are (inverted 32 B) (inverted 32 B) (16 * p) (16 * p + 128) k l (maskInto R i j) low low hk hl hm (sumEntries R p)
+      ∙ sym (add-rows (codingAt B (8 * i + j)) (codingAt B (8 * suc i + j)) (codingAt R (8 * i + j)) j k l (maskInto R i j) (maskOutOf R i j)
+      (ready .before (8 * i + j) (omega arith)) (ready .before (8 * suc i + j) (omega arith)) hk hl hm
+      (keyedBy (inverted 32 B) (16 * p) k) (keyedBy (inverted 32 B) (16 * p + 128) l) (sumEntries R p)
+      (λ v hv. ap (λ (y : ℕ). bitXor y k) (inverse-at 32 B (16 * p + v) (8 * i + j) v (omega arith) hv (omega arith)))
+      (λ v hv. ap (λ (y : ℕ). bitXor y l) (inverse-at 32 B (16 * p + 128 + v) (8 * suc i + j) v (omega arith) hv (omega arith)))
+      (λ v hv. ap (λ (y : ℕ). addEntry j (codingAt R y) (maskOutOf R i j) v) e))
 
   turn-is : (p : ℕ) → p < 24 → madeTurn (inverted 24 R) A p ≡ tab turnLength (turnTable (codingsOf B A R) (p / 8) (p % 8))
   unfolding madeTurn turnTable codingsOf
   turn-is p hp = go (p / 8) (p % 8) (omega arith) (omega arith) (omega arith)
     where
       go : (i j : ℕ) → i < 3 → j < 8 → 8 * i + j ≡ p
-          → tableBy _+_ (drop (16 * p) A) (tab 16 (upperParts (inverted 24 R) (16 * (8 * i + upper i j)) i)) (tab 16 (lowerParts (inverted 24 R) (16 * (8 * i + lower i j)) i))
-          ≡ tab 256 (turnTable (codingsOf B A R) i j)
+          → turnedRows (inverted 24 R) (16 * (8 * i + upper i j)) (16 * (8 * i + lower i j)) i (drop (16 * p) A) ≡ tab 256 (turnTable (codingsOf B A R) i j)
       go i j hi hj e =
           let hu = upper-lt i j in
           let hl = lower-lt i j hj in
           let u : ℕ → ℕ = λ x. getD (inverted 24 R) (16 * (8 * i + upper i j) + x) 0 in
           let v : ℕ → ℕ = λ x. getD (inverted 24 R) (16 * (8 * i + lower i j) + x) 0 in
-          both-tabled _+_ (drop (16 * p) A) 16 (upperParts (inverted 24 R) (16 * (8 * i + upper i j)) i) (lowerParts (inverted 24 R) (16 * (8 * i + lower i j)) i)
-          (λ x q. codingAt A (8 * i + j) (turned i (u x) (v q))) (λ x q hx hq.
-          let w = parts-turn i (u x) (v q) (inverse-below 24 R (ready .middles) (16 * (8 * i + lower i j) + q)) in
-          getD-drop (16 * p) A (upperPart i (u x) + lowerPart i (v q)) 0
-          ∙ ap₂ (λ (y z : ℕ). getD A (16 * y + z) 0) (sym e) w)
+          turned-are (inverted 24 R) A (16 * (8 * i + upper i j)) (16 * (8 * i + lower i j)) i (8 * i + j) (16 * p) (inverse-below 24 R (ready .middles)) (omega arith)
           ∙ sym (turn-rows (codingAt R (8 * i + upper i j)) (codingAt R (8 * i + lower i j)) (codingAt A (8 * i + j)) u v
           (λ x hx. inverse-at 24 R (16 * (8 * i + upper i j) + x) (8 * i + upper i j) x (omega arith) hx refl)
           (λ x hx. inverse-at 24 R (16 * (8 * i + lower i j) + x) (8 * i + lower i j) x (omega arith) hx refl) i)
@@ -191,7 +189,7 @@ module _ (S U F K : List ℕ) where
 
 -- ---- a valid chain gives what its rounds are made from
 
-module _ (z : KeySize) (ch : List ℕ) (h : Chain z ch) where
+module _ {from to : ℕ} (z : KeySize) (ch : List ℕ) (h : ChainBy from to z ch) where
   pub sets-permute : (l : ℕ) → l ≤ rounds z → FirstPermutations 32 (drop (512 * suc l) ch)
   sets-permute l hl k hk =
       let e : 8 * (k / 8) + k % 8 ≡ k = omega arith in
@@ -221,6 +219,7 @@ module _ (z : KeySize) (ch : List ℕ) (h : Chain z ch) where
     pub round-ready : RoundReady B A R
     round-ready = record {
       before = rw (eB, eb) (sets-permute l (omega arith));
+      after = rw (eA, ea) (sets-permute (suc l) hl);
       middles = rw (eR, en) (middles-permute l hl);
       masks = rw (eR, en) (masks-are l hl);
       roomBefore = rw (eB, length-drop) (omega (arith, h .size));
@@ -228,9 +227,9 @@ module _ (z : KeySize) (ch : List ℕ) (h : Chain z ch) where
       roomMiddles = rw (eR, length-drop) (omega (arith, h .size));
     }
 
-    pub round-at-is : (K : List ℕ) → roundPart (codingsOf B A R) K ≡ roundPart (roundCodings (rounds z) ch l) K
+    pub codings-at : codingsOf B A R ≡ roundCodings (rounds z) ch l
     unfolding codingsOf roundCodings
-    round-at-is K = rw (eB, eA, eR, eb, ea, en)
+    codings-at = rw (eB, eA, eR, eb, ea, en)
 
 -- ---- parts that are put together
 

@@ -15,7 +15,7 @@ use Rattle.cipher.specs.KeySize.{rounds}
 use Rattle.cipher.specs.Lea.{firstRounds}
 use Rattle.cipher.specs.Cmac.{subkey1, subkey2}
 use Rattle.cipher.specs.Coding.{Set, FirstPermutations, setOf, ofHalves, coded}
-use Rattle.cipher.specs.Chain.{Chain, roundCodings}
+use Rattle.cipher.specs.Chain.{ChainBy, roundCodings}
 use Rattle.cipher.specs.Book.{startPart, groupPart, groupKey, bookGroup, bookRound, bookOf}
 use Rattle.cipher.proofs.BookLaw.{group-size, round-size}
 use Rattle.cipher.specs.declared.size.KeySize.{KeySize}
@@ -23,7 +23,7 @@ use Rattle.table_maker.specs.Made.{threeKeys}
 use Rattle.book.proofs.BuildLaws.{sets-permute}
 
 -- set r of a valid chain, from its place on
-pub last-set : (z : KeySize) (ch S : List ℕ) (r : ℕ) → Chain z ch → r ≡ rounds z → S ≡ drop (512 * (r + 1)) ch → FirstPermutations 32 S × (512 ≤ length S)
+pub last-set : {from to : ℕ} (z : KeySize) (ch S : List ℕ) (r : ℕ) → ChainBy from to z ch → r ≡ rounds z → S ≡ drop (512 * (r + 1)) ch → FirstPermutations 32 S × (512 ≤ length S)
 last-set z ch S r h er e =
     let d : 512 * (r + 1) ≡ 512 * suc (rounds z) = omega arith in
     let l : length S ≡ length ch - 512 * (r + 1) = ap length e ∙ length-drop (512 * (r + 1)) ch in

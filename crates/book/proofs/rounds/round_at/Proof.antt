@@ -4,7 +4,9 @@ use Prim.Native.Nat.{ℕ, _+_, _*_}
 use native.Mathlib.Omega.{arith}
 use borrow.Author.Needs.{needs}
 use Rattle.lists.proofs.PartLaws.{part-end}
-use Rattle.book.proofs.BuildLaws.{round-ready, round-at-is}
+use Rattle.cipher.specs.Tables.{RoundCodings}
+use Rattle.cipher.specs.Book.{roundPart}
+use Rattle.book.proofs.BuildLaws.{round-ready, codings-at}
 use Rattle.book.proofs.rounds.round_at.Statement.{statement}
 use Rattle.book.proofs.rounds.round_at.Tie as tie
 
@@ -26,9 +28,9 @@ returns c =
     let ch = e .args .chain .now in
     let l = e .args .l in
     c .before .before .round-tables .ensures
-    ∙ round-at-is (e .args .size) ch (e .pre .0) l _ _ _ (512 * (l + 1)) (512 * (l + 2)) (512 * (d .before .before .before .before .rounds .result + 2) + 408 * l) (e .pre .1)
+    ∙ ap (λ (q : RoundCodings). roundPart q (e .args .k)) (codings-at (e .args .size) ch (e .pre .0) l _ _ _ (512 * (l + 1)) (512 * (l + 2)) (512 * (d .before .before .before .before .rounds .result + 2) + 408 * l) (e .pre .1)
     (part-end ch (512 * (l + 1))) (part-end ch (512 * (l + 2))) (part-end ch (512 * (d .before .before .before .before .rounds .result + 2) + 408 * l))
-    (omega arith) (omega arith) (ap (λ (q : ℕ). 512 * (q + 2) + 408 * l) (d .before .before .before .before .rounds .ensures)) (e .args .k)
+    (omega arith) (omega arith) (ap (λ (q : ℕ). 512 * (q + 2) + 408 * l) (d .before .before .before .before .rounds .ensures)))
 
 pub round-at-spec : {M : Type 1} → statement M
 round-at-spec =
