@@ -2,7 +2,7 @@
 use mathlib.Core.Path.{_≡_, refl, sym, ap, ap₂, _∙_}
 use mathlib.Core.List.{List, [], _++_, append-assoc}
 use Prim.Native.Nat.{ℕ, zero, suc, _+_, _-_, _*_, _≤_, _<_}
-use native.Mathlib.Nat.{le-of-eq, le-refl}
+use native.Mathlib.Nat.{le-of-eq}
 use native.Mathlib.Omega.{arith}
 use lib.ListN.{length, getD, take, drop, length-append, length-drop}
 use lib.Seq.{drop-at, length-take-le}
@@ -22,12 +22,12 @@ use Rattle.cipher.specs.declared.size.KeySize.{KeySize}
 use Rattle.table_maker.specs.Made.{threeKeys}
 use Rattle.book.proofs.BuildLaws.{sets-permute}
 
--- set r of a valid chain, from its place on
-pub last-set : {from to : ℕ} (z : KeySize) (ch S : List ℕ) (r : ℕ) → ChainBy from to z ch → r ≡ rounds z → S ≡ drop (512 * (r + 1)) ch → FirstPermutations 32 S × (512 ≤ length S)
-last-set z ch S r h er e =
-    let d : 512 * (r + 1) ≡ 512 * suc (rounds z) = omega arith in
-    let l : length S ≡ length ch - 512 * (r + 1) = ap length e ∙ length-drop (512 * (r + 1)) ch in
-    (rw (e, d) (sets-permute z ch h (rounds z) (le-refl (rounds z))), omega (arith, h .size))
+-- set l of a valid chain, from its place on
+pub set-in : {from to : ℕ} (z : KeySize) (ch S : List ℕ) (l : ℕ) → ChainBy from to z ch → l ≤ rounds z → S ≡ drop (512 * (l + 1)) ch → FirstPermutations 32 S × (512 ≤ length S)
+set-in z ch S l h hl e =
+    let d : 512 * (l + 1) ≡ 512 * suc l = omega arith in
+    let n : length S ≡ length ch - 512 * (l + 1) = ap length e ∙ length-drop (512 * (l + 1)) ch in
+    (rw (e, d) (sets-permute z ch h l hl), omega (arith, h .size))
 
 pub start-length : (x : List ℕ) (S : Set) → x ≡ coded S zeros → length x ≡ 16
 unfolding coded ofHalves

@@ -1,6 +1,7 @@
 -- `build::fill` meets its contract.
 use mathlib.Core.Path.{_∙_}
 use Prim.Native.Nat.{_+_, _-_, _*_}
+use native.Mathlib.Nat.{le-of-eq}
 use native.Mathlib.Omega.{arith}
 use borrow.Author.Needs.{needs}
 use lib.Seq.{length-take-le}
@@ -8,7 +9,7 @@ use Rattle.lists.proofs.PartLaws.{part-end}
 use Rattle.cipher.specs.KeySize.{rounds}
 use Rattle.table_maker.specs.Made.{threeKeys}
 use Rattle.book.proofs.BuildLaws.{message-permutes}
-use Rattle.book.proofs.WholeLaws.{last-set, start-length, groups-length, groups-room, after-length, rounds-room, all-joined, all-length, rounds-length, after-first, book-is}
+use Rattle.book.proofs.WholeLaws.{set-in, start-length, groups-length, groups-room, after-length, rounds-room, all-joined, all-length, rounds-length, after-first, book-is}
 use Rattle.book.proofs.build.fill.Statement.{statement}
 use Rattle.book.proofs.build.fill.Tie as tie
 
@@ -17,7 +18,7 @@ start-requires c κs =
     let e = c .before .before .before .before .before .before .before in
     let ch = e .args .chain .now in
     let q = c .before .before .before .before .rounds .result in
-    let s = last-set (e .args .size) ch _ q (e .pre .0) (c .before .before .before .before .rounds .ensures) (part-end ch (512 * (q + 1))) in
+    let s = set-in (e .args .size) ch _ q (e .pre .0) (le-of-eq (c .before .before .before .before .rounds .ensures)) (part-end ch (512 * (q + 1))) in
     (s .0, s .1, length-take-le 16 (e .args .out .now) (omega arith))
 
 groups-requires : tie.Need-groups-requires
@@ -28,7 +29,7 @@ groups-requires c κs =
     let e = at-rounds .before .before .before in
     let ch = e .args .chain .now in
     let q = at-rounds .rounds .result in
-    let s = last-set (e .args .size) ch _ q (e .pre .0) (at-rounds .rounds .ensures) (part-end ch (512 * (q + 1))) in (
+    let s = set-in (e .args .size) ch _ q (e .pre .0) (le-of-eq (at-rounds .rounds .ensures)) (part-end ch (512 * (q + 1))) in (
       s .0,
       s .1,
       message-permutes (e .args .size) ch (e .pre .0),
