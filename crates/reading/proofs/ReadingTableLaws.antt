@@ -12,15 +12,9 @@ use Rattle.cipher.specs.Coding.{Permutation, decode}
 use Rattle.cipher.specs.Tables.{addSum, carryHeld, addEntry, turned, turnEntry}
 use Rattle.cipher.proofs.Permutation.{decode-lt}
 use Rattle.cipher.proofs.TableLaws.{add-rows, turn-rows}
-use Rattle.reading.specs.Tables.{turnedBack, turnBackEntry, difference, subtractEntry}
+use Rattle.reading.specs.Tables.{turnedBack, cutOf, turnBackEntry, difference, subtractEntry, sumCoding}
 
 -- ---- turn tables
-
--- the word of a sealing book that is cut as word i is here
-abbrev pub cutOf : ℕ → ℕ
-cutOf zero = 1
-cutOf (suc zero) = 0
-cutOf (suc (suc i)) = 1
 
 turned-is : (i u v : ℕ) → turnedBack i u v ≡ turned (cutOf i) u v
 turned-is zero u v = refl
@@ -44,10 +38,6 @@ flip x h =
     let a : bitXor x 15 + bitAnd x 15 * 2 ≡ x + 15 = xor-add-and x 15 in
     let b : bitAnd x 15 ≡ x % 16 = and-mask x 4 in
     omega arith
-
--- the coding of the sums of the add table that a subtract table is: h is that of the difference, l its key half byte
-abbrev pub sumCoding : (ℕ → ℕ) → ℕ → ℕ → ℕ
-sumCoding h l x = h (bitXor x (bitXor 15 l))
 
 module _ (f g : ℕ → ℕ) (p : Permutation f) (q : Permutation g) (k m n : ℕ) (hk : k < 16) (hm : m < 2) (hn : n < 512) where
   pub subtract-is-add : (j : ℕ) (h : ℕ → ℕ) (l m' : ℕ) → subtractEntry j h l m' (difference f g k m n) ≡ addEntry j (sumCoding h l) m' (addSum f g 15 k m n)
