@@ -1,0 +1,2 @@
+pub mod ReadingTableMade
+pub mod ReadingWhole

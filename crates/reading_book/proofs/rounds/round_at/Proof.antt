@@ -1,0 +1,41 @@
+-- `rounds::round_at` meets its contract.
+use mathlib.Core.Path.{ap, _∙_}
+use Prim.Native.Nat.{ℕ, _+_, _*_}
+use native.Mathlib.Omega.{arith}
+use borrow.Author.Needs.{needs}
+use Rattle.lists.proofs.PartLaws.{part-end}
+use Rattle.cipher.specs.Tables.{RoundCodings}
+use Rattle.reading.specs.Book.{readingPart}
+use Rattle.book.proofs.BuildLaws.{round-ready, codings-at}
+use Rattle.reading_book.proofs.rounds.round_at.Statement.{statement}
+use Rattle.reading_book.proofs.rounds.round_at.Tie as tie
+
+round-tables-requires : tie.Need-round-tables-requires
+round-tables-requires c κs =
+    let e = c .before .before .before .before .before .before .before in
+    let ch = e .args .chain .now in
+    let l = e .args .l in (
+      round-ready (e .args .size) ch (e .pre .0) l _ _ _ (512 * (l + 1)) (512 * (l + 2)) (512 * (c .before .before .before .before .rounds .result + 2) + 408 * l) (e .pre .1)
+          (part-end ch (512 * (l + 1))) (part-end ch (512 * (l + 2))) (part-end ch (512 * (c .before .before .before .before .rounds .result + 2) + 408 * l))
+          (omega arith) (omega arith) (ap (λ (q : ℕ). 512 * (q + 2) + 408 * l) (c .before .before .before .before .rounds .ensures)),
+      e .pre .2,
+    )
+
+returns : tie.Need-returns
+returns c =
+    let d = c .before .before .before in
+    let e = d .before .before .before .before .before .before .before in
+    let ch = e .args .chain .now in
+    let l = e .args .l in
+    c .before .before .round-tables .ensures
+    ∙ ap (λ (q : RoundCodings). readingPart q (e .args .k)) (codings-at (e .args .size) ch (e .pre .0) l _ _ _ (512 * (l + 1)) (512 * (l + 2)) (512 * (d .before .before .before .before .rounds .result + 2) + 408 * l) (e .pre .1)
+    (part-end ch (512 * (l + 1))) (part-end ch (512 * (l + 2))) (part-end ch (512 * (d .before .before .before .before .rounds .result + 2) + 408 * l))
+    (omega arith) (omega arith) (ap (λ (q : ℕ). 512 * (q + 2) + 408 * l) (d .before .before .before .before .rounds .ensures)))
+
+pub round-at-spec : {M : Type 1} → statement M
+round-at-spec =
+    tie.close
+    (tie.spec (λ c κs. search needs) (λ c. search needs) (λ c. search needs) (λ c. search needs) (λ c. search needs) (λ c. search needs)
+    (λ c. search needs) (λ c. search needs) (λ c. search needs) (λ c. search needs) (λ c. search needs) (λ c. search needs)
+    (λ c. search needs) (λ c. search needs) (λ c. search needs) (λ c. search needs) (λ c. search needs) (λ c. search needs)
+    round-tables-requires (λ c. search needs) returns)
