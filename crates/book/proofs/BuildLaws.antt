@@ -18,7 +18,7 @@ use Rattle.lists.proofs.PartLaws.{grown-part, grown-whole}
 use Rattle.lists.proofs.HalfByteLaws.{half-lt}
 use Rattle.lists.proofs.XorLaws.{xor-assoc}
 use Rattle.cipher.specs.Coding.{FirstPermutations, codingAt, setOf, decode, inverted, blockHalf}
-use Rattle.cipher.specs.Tables.{addEntry, addSum, addTable, turned, upper, lower, turnTable, foldTable}
+use Rattle.cipher.specs.Tables.{addEntry, addTable, turned, upper, lower, turnTable, foldTable}
 use Rattle.cipher.specs.KeySize.{rounds}
 use Rattle.cipher.specs.Lengths.{addLength, turnLength, foldLength}
 use Rattle.cipher.specs.Chain.{ChainBy, roundBytes, maskInto, maskOutOf, roundCodings}

@@ -1,2 +1,3 @@
 pub mod ReadingTableMade
 pub mod ReadingWhole
+pub mod ReadingChainRefusals

@@ -1,7 +1,7 @@
 -- The tables that the builder makes from inverted codings are the tables of the reading book.
 use mathlib.Core.Path.{_≡_, refl, sym, ap, ap₂, _∙_}
 use mathlib.Core.List.{List, [], _∷_, _++_}
-use Prim.Native.Nat.{ℕ, zero, suc, _+_, _-_, _*_, _/_, _%_, _≤_, _<_}
+use Prim.Native.Nat.{ℕ, zero, suc, _+_, _*_, _/_, _%_, _<_}
 use native.Mathlib.Nat.{not-suc-le-zero, le-of-suc-le-suc}
 use native.Mathlib.Omega.{arith}
 use lib.Bits.{bitXor}
@@ -13,7 +13,7 @@ use Rattle.lists.proofs.TabulationLaws.{length-tab}
 use Rattle.lists.proofs.ChunkLaws.{length-chunks, chunks-ext}
 use Rattle.lists.proofs.HalfByteLaws.{half-lt}
 use Rattle.cipher.specs.Coding.{FirstPermutations, LowSet, codingAt, inverted}
-use Rattle.cipher.specs.Tables.{addEntry, turned}
+use Rattle.cipher.specs.Tables.{addEntry}
 use Rattle.cipher.specs.Lengths.{turnLength}
 use Rattle.cipher.specs.Chain.{maskInto, maskOutOf}
 use Rattle.cipher.specs.Book.{twoKinds}

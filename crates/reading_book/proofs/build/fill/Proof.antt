@@ -7,7 +7,6 @@ use borrow.Author.Needs.{needs}
 use lib.ListN.{length}
 use Rattle.lists.proofs.PartLaws.{part-end}
 use Rattle.cipher.specs.KeySize.{rounds}
-use Rattle.cipher.proofs.KeySizeLaws.{rounds-le}
 use Rattle.book.proofs.AnswerLaws.{room-length}
 use Rattle.book.proofs.WholeLaws.{set-in}
 use Rattle.reading_book.proofs.ReadingWhole.{rounds-back-length, group-length, rest-length, rest-joined, both-length, reading-book-is}

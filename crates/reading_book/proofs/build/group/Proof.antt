@@ -1,5 +1,4 @@
 -- `build::group` meets its contract.
-use mathlib.Core.Path.{_∙_}
 use borrow.Author.Needs.{needs}
 use Rattle.book.proofs.BuildLaws.{inverse-array}
 use Rattle.reading_book.proofs.ReadingWhole.{group-made}
