@@ -1,16 +1,30 @@
 -- `build::build_reading` meets its contract.
-use mathlib.Core.Path.{sym, ap, _∙_}
+use mathlib.Core.Path.{_≡_, sym, ap, _∙_}
 use mathlib.Core.List.{List}
 use Prim.Native.Nat.{ℕ}
 use native.Mathlib.Omega.{arith}
 use borrow.Author.Needs.{needs}
-use Rattle.cipher.specs.KeySize.{keyLength, rounds}
+use lib.ListN.{length}
+use Rattle.cipher.specs.KeySize.{keyLength, rounds, sizeOfKey}
+use Rattle.cipher.specs.declared.size.SizeFound.the-variants.{Found}
 use Rattle.cipher.proofs.KeySizeLaws.{found-length}
 use Rattle.cipher.proofs.CheckLaws.{chain-checked}
+use Rattle.reading.specs.Chain.{ReadingChain}
 use Rattle.reading.specs.Book.{readingBookOf, readingBookLength}
 use Rattle.book.proofs.AnswerLaws.{built-key, built-chain, built-room, built-front, room-length}
 use Rattle.reading_book.proofs.build.build_reading.Statement.{statement}
 use Rattle.reading_book.proofs.build.build_reading.Tie as tie
+
+-- the parameters, seen from the size that was found for the key
+abbrev given : tie.After-size → tie.Start
+given c = c .before .before .before .before .before .before
+
+known : (c : tie.After-size) → sizeOfKey (length (given c .args .key .now)) ≡ Found (c .size .given .0 .0)
+known c = sym (c .before .before .of-key-len .ensures) ∙ c .size .given .1
+
+-- the chain, where it was not refused
+valid : (c : tie.Else1) → ReadingChain (c .before .before .before .before .size .given .0 .0) (given (c .before .before .before .before) .args .chain .now)
+valid c = chain-checked {from = 3} {to = 0} _ _ (sym (c .before .before .check-rule .ensures) ∙ sym (c .before .number .ensures) ∙ c .if1 .left)
 
 returns : tie.Need-returns
 returns c = sym (built-key _ _ _ _ _ _ _ (sym (c .before .before .of-key-len .ensures) ∙ c .enum-told .given .1))
@@ -19,41 +33,26 @@ returns-2 : tie.Need-returns-2
 returns-2 c =
     let at-check-rule = c .before .before in
     let at-size = at-check-rule .before .before in
-    let at-of-key-len = at-size .before .before in
-    let known = sym (at-of-key-len .of-key-len .ensures) ∙ at-size .size .given .1 in
-    sym (built-chain _ _ _ _ _ _ _ (at-size .size .given .0 .0) known _ _ (at-check-rule .check-rule .ensures) (c .before .number .ensures) (c .if1 .taken))
+    sym (built-chain 3 0 _ _ _ _ _ (at-size .size .given .0 .0) (known at-size) _ _ (at-check-rule .check-rule .ensures) (c .before .number .ensures) (c .if1 .taken))
 
 returns-3 : tie.Need-returns-3
 returns-3 c =
     let at-if1 = c .before .before in
-    let at-number = at-if1 .before in
-    let at-check-rule = at-number .before in
-    let at-size = at-check-rule .before .before in
-    let at-of-key-len = at-size .before .before in
+    let at-size = at-if1 .before .before .before .before in
     let b = c .before .reading-len .ensures in
-    let known = sym (at-of-key-len .of-key-len .ensures) ∙ at-size .size .given .1 in
-    let z = at-size .size .given .0 .0 in
-    let valid = chain-checked z _ (sym (at-check-rule .check-rule .ensures) ∙ sym (at-number .number .ensures) ∙ at-if1 .if1 .left) in
-    sym (built-room _ _ _ _ _ _ _ z known valid (omega arith))
+    sym (built-room 3 0 _ _ _ _ _ (at-size .size .given .0 .0) (known at-size) (valid at-if1) (omega arith))
 
 key-rows-requires : tie.Need-key-rows-requires
-key-rows-requires c κs =
-    let at-size = c .before .before .before .before .before .before in
-    let at-of-key-len = at-size .before .before in
-    found-length keyLength _ _ (sym (at-of-key-len .of-key-len .ensures) ∙ at-size .size .given .1)
+key-rows-requires c κs = found-length keyLength _ _ (known (c .before .before .before .before .before .before))
 
 fill-requires : tie.Need-fill-requires
 fill-requires c κs =
     let at-reading-len = c .before .before .before in
     let at-if1 = at-reading-len .before in
-    let at-number = at-if1 .before in
-    let at-check-rule = at-number .before in
-    let at-size = at-check-rule .before .before in
-    let e = at-size .before .before .before .before .before .before in
-    let b = at-reading-len .reading-len .ensures in
-    let z = at-size .size .given .0 .0 in (
-      chain-checked z _ (sym (at-check-rule .check-rule .ensures) ∙ sym (at-number .number .ensures) ∙ at-if1 .if1 .left),
-      room-length (at-reading-len .reading-len .result) (readingBookLength z) (e .args .out .now) b (omega arith),
+    let at-size = at-if1 .before .before .before .before in
+    let b = at-reading-len .reading-len .ensures in (
+      valid at-if1,
+      room-length (at-reading-len .reading-len .result) (readingBookLength (at-size .size .given .0 .0)) (given at-size .args .out .now) b (omega arith),
     )
 
 returns-4 : tie.Need-returns-4
@@ -62,17 +61,11 @@ returns-4 c =
     let at-key-rows = at-fill .before .before in
     let at-reading-len = at-key-rows .before .before in
     let at-if1 = at-reading-len .before in
-    let at-number = at-if1 .before in
-    let at-check-rule = at-number .before in
-    let at-size = at-check-rule .before .before in
-    let at-of-key-len = at-size .before .before in
-    let e = at-of-key-len .before .before .before .before in
+    let at-size = at-if1 .before .before .before .before in
     let z = at-size .size .given .0 .0 in
     let b = at-reading-len .reading-len .ensures in
-    built-front _ _ _ _ _ _ _ z (sym (at-of-key-len .of-key-len .ensures) ∙ at-size .size .given .1)
-    (chain-checked (at-size .size .given .0 .0) _ (sym (at-check-rule .check-rule .ensures) ∙ sym (at-number .number .ensures) ∙ at-if1 .if1 .left))
-    (omega arith) (at-reading-len .reading-len .result) b _
-    (at-fill .fill .ensures ∙ ap (λ (rows : List (List ℕ)). readingBookOf (rounds z) rows (e .args .chain .now)) (at-key-rows .key-rows .ensures))
+    built-front 3 0 _ _ _ _ _ z (known at-size) (valid at-if1) (omega arith) (at-reading-len .reading-len .result) b _
+    (at-fill .fill .ensures ∙ ap (λ (rows : List (List ℕ)). readingBookOf (rounds z) rows (given at-size .args .chain .now)) (at-key-rows .key-rows .ensures))
 
 pub build-reading-spec : {M : Type 1} → statement M
 build-reading-spec =
