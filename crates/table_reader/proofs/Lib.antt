@@ -1,4 +1,5 @@
 pub mod ReadingLaws
+pub mod Columns
 pub mod SumLaws
 pub mod TurnLaws
 pub mod FoldLaws

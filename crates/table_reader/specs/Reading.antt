@@ -4,7 +4,7 @@ use mathlib.Core.Path.{_≡_}
 use mathlib.Core.List.{List}
 use Prim.Native.Nat.{ℕ, _+_, _*_, _/_, _%_}
 use lib.ListN.{getD}
-use Rattle.cipher.specs.Lengths.{addLength, addsLength, turnLength, foldLength}
+use Rattle.cipher.specs.Lengths.{addLength, turnLength, foldLength}
 use Rattle.lists.specs.Tabulation.{tab}
 use Rattle.cipher.specs.Coding.{blockHalf}
 use Rattle.cipher.specs.Tables.{sumAt}
@@ -23,18 +23,22 @@ pub record TwoIs (t : List ℕ) (k c x y s d : ℕ) : Type 0 where
   pub sum : s ≡ lowEntry t k c x y % 16 + 16 * (highEntry t k c x y % 16)
   pub carry : d ≡ highEntry t k c x y / 16 % 2
 
--- byte m of sum i, and the four bytes of each of the three sums
-unfoldable pub sumByte : List ℕ → List ℕ → ℕ → ℕ → ℕ
-sumByte t b i m = sumAt t b i (2 * m) + 16 * sumAt t b i (2 * m + 1)
+-- byte m of word i, where half byte j of word i is x i j; and the four bytes of each of three words
+abbrev pub byteOf : (ℕ → ℕ → ℕ) → ℕ → ℕ → ℕ
+byteOf x i m = x i (2 * m) + 16 * x i (2 * m + 1)
 
-unfoldable pub sumBytes : List ℕ → List ℕ → List ℕ
-sumBytes t b = tab 12 (λ k. sumByte t b (k / 4) (k % 4))
+unfoldable pub threeWords : (ℕ → ℕ → ℕ) → List ℕ
+threeWords x = tab 12 (λ k. byteOf x (k / 4) (k % 4))
+
+-- the sums of a block
+abbrev pub sumBytes : List ℕ → List ℕ → List ℕ
+sumBytes t b = threeWords (sumAt t b)
 
 -- ---- the turns
 
--- half byte j of new word i, turned from the half bytes j + u and j + v of sum i in s
+-- half byte j of word i turned by the turn tables in t from the half bytes j + u and j + v of word i in s, and byte m
 unfoldable pub turnHalf : List ℕ → List ℕ → ℕ → ℕ → ℕ → ℕ → ℕ
-turnHalf t s i j u v = getD t (addsLength + turnLength * (8 * i + j) + (16 * blockHalf s i ((j + u) % 8) + blockHalf s i ((j + v) % 8))) 0 % 16
+turnHalf t s i j u v = getD t (turnLength * (8 * i + j) + (16 * blockHalf s i ((j + u) % 8) + blockHalf s i ((j + v) % 8))) 0 % 16
 
 unfoldable pub turnByte : List ℕ → List ℕ → ℕ → ℕ → ℕ → ℕ → ℕ
 turnByte t s i m u v = turnHalf t s i (2 * m) u v + 16 * turnHalf t s i (2 * m + 1) u v

@@ -1,7 +1,7 @@
 // The tables of a book read (document 01, "Book"): the inner part of the driver, which folds a block
 // into another and takes it through rounds.
-mod entry;
+pub mod entry;
 pub mod fold;
 pub mod round;
-mod sums;
-mod turns;
+pub mod sums;
+pub mod turns;

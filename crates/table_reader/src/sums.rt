@@ -3,7 +3,7 @@
 ghost use mathlib.Core.Path.{_≡_};
 ghost use Prim.Native.Nat.{_≤_, _<_};
 ghost use lib.ListN.{length};
-ghost use Rattle.cipher.specs.Lengths.{roundLength};
+ghost use Rattle.cipher.specs.Lengths.{addsLength, roundLength};
 ghost use Rattle.table_reader.specs.Reading.{TwoIs, sumBytes};
 use crate::entry::add_at;
 use crate::entry::carry;
@@ -17,9 +17,9 @@ pub struct Two {
     pub carry: usize,
 }
 
-// Tables k and k + 1 at the halves of x and y, the carry c coming in.
-fn add_two(t: &[u8], k: usize, c: usize, x: u8, y: u8) -> Two
-    requires { ⌜ (k < 23) × (c < 2) × (roundLength ≤ length (now t)) ⌝ }
+// Tables k and k + 1 of the add tables in t at the halves of x and y, the carry c coming in.
+pub fn add_two(t: &[u8], k: usize, c: usize, x: u8, y: u8) -> Two
+    requires { ⌜ (k < 23) × (c < 2) × (addsLength ≤ length (now t)) ⌝ }
     ensures { λ r. ⌜ TwoIs (now (t .entry)) k c x y (r .sum) (r .carry) ⌝ }
 {
     let e = add_at(t, k, c, low(x), low(y));
