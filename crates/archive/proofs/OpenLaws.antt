@@ -7,8 +7,8 @@ use native.Mathlib.Omega.{arith}
 use lib.ListN.{length, take, drop}
 use lib.Seq.{take-all, drop-at, drop-drop}
 use Rattle.lists.specs.Tabulation.{chunks}
-use Rattle.lists.specs.Blocks.{Bytes, Block, xorBlock, cut, blocks, blockOf, blockBefore}
-use Rattle.lists.proofs.BlockLaws.{block-xor, bytes-take, bytes-drop, cut-more, flatten-more}
+use Rattle.lists.specs.Blocks.{Bytes, Block, xorBlock, cut, blocks, blockOf, blockBefore, eachAfter}
+use Rattle.lists.proofs.BlockLaws.{block-xor, bytes-take, bytes-drop, each-cut}
 use Rattle.lists.proofs.ChunkLaws.{chunks-more, length-chunks}
 use Rattle.lists.proofs.PartLaws.{put-more}
 use Rattle.cipher.specs.Word.{xorWords}
@@ -43,47 +43,19 @@ module _ (rows : List (List ℕ)) (hr : WordRows rows) (r : ℕ) (f : List ℕ �
 
 -- ---- all of them
 
--- the block that stands before the next one
-lastOr : List ℕ → List (List ℕ) → List ℕ
-lastOr iv [] = iv
-lastOr iv (c ∷ cs) = lastOr c cs
+module _ (rows : List (List ℕ)) (r : ℕ) (f : List ℕ → List ℕ) where
+  -- deciphering in CBC takes each block with the one before it
+  deciphered : (x : List ℕ) (cs : List (List ℕ))
+      → cbcDeciphered (undoneRounds rows r) (f x) (map f cs) ≡ eachAfter (λ y c. xorBlock (undoneRounds rows r (f c)) (f y)) x cs
+  unfolding cbcDeciphered eachAfter map
+  deciphered x [] = refl
+  deciphered x (c ∷ cs) = ap (λ (l : List (List ℕ)). xorBlock (undoneRounds rows r (f c)) (f x) ∷ l) (deciphered c cs)
 
-last-snoc : (iv : List ℕ) (cs : List (List ℕ)) (c : List ℕ) → lastOr iv (cs ++ (c ∷ [])) ≡ c
-unfolding lastOr
-last-snoc iv [] c = refl
-last-snoc iv (b ∷ cs) c = last-snoc b cs c
-
-cbc-more : (D : List ℕ → List ℕ) (iv : List ℕ) (cs : List (List ℕ)) (c : List ℕ)
-    → cbcDeciphered D iv (cs ++ (c ∷ [])) ≡ cbcDeciphered D iv cs ++ (xorBlock (D c) (lastOr iv cs) ∷ [])
-unfolding cbcDeciphered lastOr
-cbc-more D iv [] c = refl
-cbc-more D iv (b ∷ cs) c = ap (λ (l : List (List ℕ)). xorBlock (D b) iv ∷ l) (cbc-more D b cs c)
-
-map-more : (f : List ℕ → List ℕ) (cs : List (List ℕ)) (c : List ℕ) → map f (cs ++ (c ∷ [])) ≡ map f cs ++ (f c ∷ [])
-unfolding map
-map-more f [] c = refl
-map-more f (b ∷ cs) c = ap (λ (l : List (List ℕ)). f b ∷ l) (map-more f cs c)
-
-module _ (rows : List (List ℕ)) (r : ℕ) (f : List ℕ → List ℕ) (iv text : List ℕ) where
-  before-is : (n : ℕ) → lastOr (f iv) (map f (cut n text)) ≡ f (blockBefore iv text n)
-  unfolding lastOr blockBefore cut map
-  before-is zero = refl
-  before-is (suc n) =
-      ap (λ (l : List (List ℕ)). lastOr (f iv) (map f l)) (cut-more n text)
-      ∙ ap (lastOr (f iv)) (map-more f (cut n text) (blockOf text n))
-      ∙ last-snoc (f iv) (map f (cut n text)) (f (blockOf text n))
-
-  pub opened-blocks : (n : ℕ) → flatten (cbcDeciphered (undoneRounds rows r) (f iv) (map f (cut n text))) ≡ chunks n (openedBlock rows r f iv text)
-  unfolding cbcDeciphered cut map flatten chunks openedBlock
-  opened-blocks zero = refl
-  opened-blocks (suc n) =
-      ap (λ (l : List (List ℕ)). flatten (cbcDeciphered (undoneRounds rows r) (f iv) (map f l))) (cut-more n text)
-      ∙ ap (λ (l : List (List ℕ)). flatten (cbcDeciphered (undoneRounds rows r) (f iv) l)) (map-more f (cut n text) (blockOf text n))
-      ∙ ap flatten (cbc-more (undoneRounds rows r) (f iv) (map f (cut n text)) (f (blockOf text n)))
-      ∙ flatten-more (cbcDeciphered (undoneRounds rows r) (f iv) (map f (cut n text))) (xorBlock (undoneRounds rows r (f (blockOf text n))) (lastOr (f iv) (map f (cut n text))))
-      ∙ ap₂ {C = List ℕ} (λ (a b : List ℕ). a ++ b) (opened-blocks n) (ap (xorBlock (undoneRounds rows r (f (blockOf text n)))) (before-is n))
-      ∙ sym (chunks-more n (openedBlock rows r f iv text))
-      ∙ ap (λ (k : ℕ). chunks k (openedBlock rows r f iv text)) (add-one n)
+  pub opened-blocks : (iv text : List ℕ) (n : ℕ)
+      → flatten (cbcDeciphered (undoneRounds rows r) (f iv) (map f (cut n text))) ≡ chunks n (openedBlock rows r f iv text)
+  unfolding openedBlock
+  opened-blocks iv text n =
+      ap flatten (deciphered iv (cut n text)) ∙ each-cut (λ y c. xorBlock (undoneRounds rows r (f c)) (f y)) iv text n
 
 pub opened-text : (rows : List (List ℕ)) (r : ℕ) (S : Set) (iv text : List ℕ)
     → openedText (undoneRounds rows r) S iv text ≡ chunks (length text / 16) (openedBlock rows r (decoded S) iv text)

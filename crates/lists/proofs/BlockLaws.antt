@@ -1,5 +1,5 @@
 -- Laws of blocks of 16 bytes: xor, and a text cut into its blocks and put together again.
-use mathlib.Core.Path.{_≡_, refl, sym, ap, _∙_}
+use mathlib.Core.Path.{_≡_, refl, sym, ap, ap₂, _∙_}
 use mathlib.Core.List.{List, [], _∷_, _++_, flatten, append-assoc, append-nil}
 use Prim.Native.Nat.{ℕ, zero, suc, _+_, _*_, _/_, _<_}
 use native.Mathlib.Decide.{decLt}
@@ -8,8 +8,8 @@ use lib.Dec.{lit<}
 use lib.Bits.{bitXor, xor-lt, xor-zero-r}
 use lib.ListN.{length, getD, take, drop, length-append, length-drop, take-append-drop, List·getD-eq-default}
 use lib.Seq.{getD-drop, take-at, drop-at, drop-drop, length-take-le}
-use Rattle.lists.specs.Tabulation.{tab}
-use Rattle.lists.specs.Blocks.{Bytes, Block, zeros, xorBlock, cut, blocks}
+use Rattle.lists.specs.Tabulation.{tab, chunks}
+use Rattle.lists.specs.Blocks.{Bytes, Block, zeros, xorBlock, blockOf, blockBefore, eachAfter, cut, blocks}
 use Rattle.lists.proofs.TabulationLaws.{length-tab, getD-tab, tab-is, tab-below, getD-replicate}
 use Rattle.lists.proofs.XorLaws.{xor-cancel}
 
@@ -133,3 +133,35 @@ module _ (l : List ℕ) (n : ℕ) (e : length l ≡ 16 * n) where
   pub length-blocks : length (blocks l) ≡ n
   unfolding blocks
   length-blocks = rw count (length-cut n l)
+
+-- ---- each block with the one before it, block by block as a loop goes
+
+-- the last of the blocks, or x where there is none
+lastOr : List ℕ → List (List ℕ) → List ℕ
+lastOr x [] = x
+lastOr x (b ∷ bs) = lastOr b bs
+
+last-more : (x : List ℕ) (bs : List (List ℕ)) (b : List ℕ) → lastOr x (bs ++ (b ∷ [])) ≡ b
+unfolding lastOr
+last-more x [] b = refl
+last-more x (c ∷ bs) b = last-more c bs b
+
+before-is : (x text : List ℕ) (n : ℕ) → lastOr x (cut n text) ≡ blockBefore x text n
+unfolding lastOr blockBefore cut
+before-is x text zero = refl
+before-is x text (suc n) = ap (lastOr x) (cut-more n text) ∙ last-more x (cut n text) (blockOf text n)
+
+module _ (g : List ℕ → List ℕ → List ℕ) where
+  each-more : (x : List ℕ) (bs : List (List ℕ)) (b : List ℕ) → eachAfter g x (bs ++ (b ∷ [])) ≡ eachAfter g x bs ++ (g (lastOr x bs) b ∷ [])
+  unfolding eachAfter lastOr
+  each-more x [] b = refl
+  each-more x (c ∷ bs) b = ap (λ (l : List (List ℕ)). g x c ∷ l) (each-more c bs b)
+
+  pub each-cut : (x text : List ℕ) (n : ℕ) → flatten (eachAfter g x (cut n text)) ≡ chunks n (λ k. g (blockBefore x text k) (blockOf text k))
+  unfolding eachAfter cut flatten chunks
+  each-cut x text zero = refl
+  each-cut x text (suc n) =
+      ap (λ (l : List (List ℕ)). flatten (eachAfter g x l)) (cut-more n text)
+      ∙ ap flatten (each-more x (cut n text) (blockOf text n))
+      ∙ flatten-more (eachAfter g x (cut n text)) (g (lastOr x (cut n text)) (blockOf text n))
+      ∙ ap₂ {C = List ℕ} (λ (a b : List ℕ). a ++ b) (each-cut x text n) (ap (λ (y : List ℕ). g y (blockOf text n)) (before-is x text n))

@@ -40,6 +40,11 @@ unfoldable pub blockBefore : List ℕ → List ℕ → ℕ → List ℕ
 blockBefore iv text zero = iv
 blockBefore iv text (suc k) = blockOf text k
 
+-- what g makes of each block and of the block before it, which is x for the first
+unfoldable pub eachAfter : (List ℕ → List ℕ → List ℕ) → List ℕ → List (List ℕ) → List (List ℕ)
+eachAfter g x [] = []
+eachAfter g x (b ∷ bs) = g x b ∷ eachAfter g b bs
+
 -- the first n blocks of l
 unfoldable pub cut : ℕ → List ℕ → List (List ℕ)
 cut zero l = []

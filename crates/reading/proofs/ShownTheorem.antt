@@ -4,7 +4,7 @@ use mathlib.Core.Path.{_≡_, refl, ap, ap₂, _∙_}
 use mathlib.Core.List.{List, [], _∷_, map, flatten}
 use Prim.Native.Nat.{ℕ, _≤_, zero-le}
 use native.Mathlib.Nat.{le-refl}
-use Rattle.lists.specs.Blocks.{Block, zeros, xorBlock, blocks}
+use Rattle.lists.specs.Blocks.{Block, zeros, xorBlock, blocks, eachAfter}
 use Rattle.lists.proofs.BlockLaws.{Blocks, none, more, block-zeros, block-xor, xor-block-zeros, blocks-flatten}
 use Rattle.cipher.specs.KeySize.{rounds}
 use Rattle.cipher.specs.Schedule.{words4}
@@ -31,7 +31,7 @@ block-read bk r x c =
     block-halves (foldHalf (readingGroupAt r bk) (readRounds (readingRoundAt bk) r c) x) (fold-lt (readingGroupAt r bk) (readRounds (readingRoundAt bk) r c) x)
 
 pub blocks-read : (bk : List ℕ) (r : ℕ) (iv : List ℕ) (cs : List (List ℕ)) → Blocks (readBlocks bk r iv cs)
-unfolding readBlocks
+unfolding eachAfter
 blocks-read bk r iv [] = none
 blocks-read bk r iv (c ∷ cs) = more (block-read bk r iv c) (blocks-read bk r c cs)
 
@@ -77,7 +77,7 @@ module _ (z : KeySize) (rows : List (List ℕ)) (words : RowsOfWords rows) (ch b
   pub read-blocks : (iv : List ℕ) (cs : List (List ℕ))
       → map (decoded (messageSet ch)) (readBlocks bk (rounds z) iv cs)
       ≡ cbcDeciphered (undoneRounds rows (rounds z)) (decoded (chainSet ch 0) iv) (map (decoded (chainSet ch 0)) cs)
-  unfolding readBlocks cbcDeciphered
+  unfolding eachAfter cbcDeciphered
   read-blocks iv [] = refl
   read-blocks iv (c ∷ cs) =
       ap₂ {C = List (List ℕ)} (λ (a : List ℕ) (l : List (List ℕ)). a ∷ l) (read-block iv c) (read-blocks c cs)

@@ -1,7 +1,7 @@
 -- Sealed blocks read by a reading book of r rounds, and what of LEA the first of its rounds undo (document 02, 2026-01).
-use mathlib.Core.List.{List, [], _∷_, map, flatten}
+use mathlib.Core.List.{List, map, flatten}
 use Prim.Native.Nat.{ℕ, zero, suc}
-use Rattle.lists.specs.Blocks.{blockOf, blockBefore, blocks}
+use Rattle.lists.specs.Blocks.{blockOf, blockBefore, blocks, eachAfter}
 use Rattle.cipher.specs.Lea.{unround}
 use Rattle.cipher.specs.Coding.{Set, decoded}
 use Rattle.cipher.specs.Tables.{tableFold}
@@ -18,9 +18,8 @@ unfoldable pub readBlock : List ℕ → ℕ → List ℕ → List ℕ → List �
 readBlock bk r before c = tableFold (readingGroupAt r bk) (readRounds (readingRoundAt bk) r c) before
 
 -- sealed blocks one after another, the IV before the first
-unfoldable pub readBlocks : List ℕ → ℕ → List ℕ → List (List ℕ) → List (List ℕ)
-readBlocks bk r iv [] = []
-readBlocks bk r iv (c ∷ cs) = readBlock bk r iv c ∷ readBlocks bk r c cs
+abbrev pub readBlocks : List ℕ → ℕ → List ℕ → List (List ℕ) → List (List ℕ)
+readBlocks bk r iv cs = eachAfter (readBlock bk r) iv cs
 
 -- a sealed text read, coded by U; and a coded text opened by a set
 unfoldable pub readText : List ℕ → ℕ → List ℕ → List ℕ → List ℕ
