@@ -5,7 +5,6 @@ use mathlib.Core.List.{List, _++_}
 use Prim.Native.Nat.{ℕ, suc, _+_, _-_, _*_, _/_, _%_, _≤_, _<_}
 use native.Mathlib.Decide.{decLt}
 use native.Mathlib.Omega.{arith}
-use lib.Dec.{lit<}
 use lib.ListN.{length, getD, drop, length-append, List·getD-append}
 use lib.Seq.{ext-getD, getD-drop}
 use Rattle.lists.specs.Tabulation.{tab, chunks, tables}
@@ -14,7 +13,7 @@ use Rattle.lists.proofs.ChunkLaws.{length-chunks, getD-chunks, getD-second, len
 use Rattle.cipher.specs.KeySize.{rounds}
 use Rattle.cipher.specs.Lengths.{codingLength, setLength, middlesLength, roundCodingsLength}
 use Rattle.cipher.specs.Coding.{Set, SameWord}
-use Rattle.cipher.specs.Chain.{messageSet, chainSet, roundBytes, middleSet, maskAt, CodingRule, SameWords, MaskRule, Chain}
+use Rattle.cipher.specs.Chain.{messageSet, chainSet, roundBytes, middleSet, maskAt, CodingRule, SameWords, MaskRule, ChainBy}
 use Rattle.cipher.specs.ChainParts.{setBytes, codingBytes, chainFrom, ValidParts}
 use Rattle.cipher.specs.declared.size.KeySize.{KeySize}
 use Rattle.cipher.proofs.Permutation.{once-ext}
@@ -96,8 +95,8 @@ module _ (r : ℕ) (U : Set) (S G : ℕ → Set) (M : ℕ → ℕ → ℕ) where
       ∙ getD-tab 24 (M l) k hk
 
   -- ---- the rules, each by itself; a word rule for any two words
-  pub from-codings : ValidParts r U S G M → CodingRule r made
-  from-codings h = record {
+  pub from-codings : (from to : ℕ) → ValidParts from to r U S G M → CodingRule r made
+  from-codings from to h = record {
     message = λ w j hw hj. once-ext 16 16 (U w j) (messageSet made w j) (λ v hv. sym (message-read w j v hw hj hv)) (h .message w j hw hj);
     sets = λ l hl w j hw hj. once-ext 16 16 (S l w j) (chainSet made l w j) (λ v hv. sym (set-read l w j v hl hw hj hv)) (h .sets l hl w j hw hj);
     middles = λ l i j hl hi hj. once-ext 16 16 (G l i j) (middleSet r made l i j) (λ v hv. sym (middle-read l i j v hl hi hj hv))
@@ -121,19 +120,19 @@ module _ (r : ℕ) (U : Set) (S G : ℕ → Set) (M : ℕ → ℕ → ℕ) where
 
 -- ---- it is valid exactly where its parts are
 
-module _ (z : KeySize) (U : Set) (S G : ℕ → Set) (M : ℕ → ℕ → ℕ) where
+module _ (from to : ℕ) (hf : from < 4) (ht : to < 4) (z : KeySize) (U : Set) (S G : ℕ → Set) (M : ℕ → ℕ → ℕ) where
   abbrev r : ℕ
   r = rounds z
 
-  pub from-valid : ValidParts r U S G M → Chain z (chainFrom r U S G M)
+  pub from-valid : ValidParts from to r U S G M → ChainBy from to z (chainFrom r U S G M)
   from-valid h = record {
     size = from-length r U S G M ∙ omega arith;
-    codings = from-codings r U S G M h;
-    words = from-words r U S G M 0 3 (lit< tt) (lit< tt) (h .word3);
+    codings = from-codings r U S G M from to h;
+    words = from-words r U S G M from to hf ht (h .words);
     masks = from-masks r U S G M (h .bits) (h .firsts);
   }
 
-  pub valid-from : Chain z (chainFrom r U S G M) → ValidParts r U S G M
+  pub valid-from : ChainBy from to z (chainFrom r U S G M) → ValidParts from to r U S G M
   valid-from h = record {
     message = λ w j hw hj. once-ext 16 16 (messageSet (chainFrom r U S G M) w j) (U w j) (λ v hv. message-read r U S G M w j v hw hj hv)
         (h .codings .message w j hw hj);
@@ -141,7 +140,7 @@ module _ (z : KeySize) (U : Set) (S G : ℕ → Set) (M : ℕ → ℕ → ℕ) w
         (h .codings .sets l hl w j hw hj);
     middles = λ l i j hl hi hj. once-ext 16 16 (middleSet r (chainFrom r U S G M) l i j) (G l i j)
         (λ v hv. middle-read r U S G M l i j v hl hi hj hv) (h .codings .middles l i j hl hi hj);
-    word3 = words-from r U S G M 0 3 (lit< tt) (lit< tt) (h .words);
+    words = words-from r U S G M from to hf ht (h .words);
     bits = λ l k hl hk.
         let e : 8 * (k / 8) + k % 8 ≡ k = omega arith in
         let b = h .masks .bits l (k / 8) (k % 8) hl (omega arith) (omega arith) in

@@ -18,11 +18,11 @@ codingBytes G m = tables 24 codingLength G ++ tab 24 m
 unfoldable pub chainFrom : ℕ → Set → (ℕ → Set) → (ℕ → Set) → (ℕ → ℕ → ℕ) → List ℕ
 chainFrom r U S G M = setBytes U ++ (chunks (suc r) (λ l. setBytes (S l)) ++ chunks r (λ l. codingBytes (G l) (M l)))
 
--- what the parts of a valid chain are
-pub record ValidParts (r : ℕ) (U : Set) (S G : ℕ → Set) (M : ℕ → ℕ → ℕ) : Type 0 where
+-- what the parts of a chain are that is valid with the word rule that goes from one word to another
+pub record ValidParts (from to r : ℕ) (U : Set) (S G : ℕ → Set) (M : ℕ → ℕ → ℕ) : Type 0 where
   pub message : Permutations U
   pub sets : (l : ℕ) → l ≤ r → Permutations (S l)
   pub middles : (l i j : ℕ) → l < r → i < 3 → j < 8 → Permutation (G l i j)
-  pub word3 : (l : ℕ) → l < r → SameWord 0 3 (S l) (S (suc l))
+  pub words : (l : ℕ) → l < r → SameWord from to (S l) (S (suc l))
   pub bits : (l k : ℕ) → l < r → k < 24 → M l k < 2
   pub firsts : (l i : ℕ) → l < r → i < 3 → M l (8 * i) ≡ 0

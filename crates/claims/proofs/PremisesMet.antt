@@ -28,12 +28,12 @@ identity-permutes = record { low = λ i l. l; once = λ i k l m e. e }
 pub identity-valid : (z : KeySize) → Chain z (identityChain z)
 unfolding identityChain
 identity-valid z =
-    from-valid z _ _ _ _
+    from-valid 0 3 (lit< tt) (lit< tt) z _ _ _ _
     (record {
       message = λ w j hw hj. identity-permutes;
       sets = λ l hl w j hw hj. identity-permutes;
       middles = λ l i j hl hi hj. identity-permutes;
-      word3 = λ l hl j v hj hv. refl;
+      words = λ l hl j v hj hv. refl;
       bits = λ l k hl hk. lit< tt;
       firsts = λ l i hl hi. refl;
     })
@@ -48,12 +48,12 @@ mask-bit false = lit< tt
 pub shifted-valid : (z : KeySize) → Chain z (shiftedChain z)
 unfolding shiftedChain
 shifted-valid z =
-    from-valid z _ _ _ _
+    from-valid 0 3 (lit< tt) (lit< tt) z _ _ _ _
     (record {
       message = λ w j hw hj. shifted-permutes (shiftAt 0 w j);
       sets = λ l hl w j hw hj. shifted-permutes (shiftAt l w j);
       middles = λ l i j hl hi hj. shifted-permutes (shiftAt l i j);
-      word3 = λ l hl j v hj hv. ap (λ (k : ℕ). shift (k + j) v) (omega arith);
+      words = λ l hl j v hj hv. ap (λ (k : ℕ). shift (k + j) v) (omega arith);
       bits = λ l k hl hk. mask-bit (eqb (k % 8) 0);
       firsts = λ l i hl hi. ap (λ (b : Bool). cond b 0 1) (eq-eqb (8 * i % 8) 0 (omega arith));
     })
