@@ -2,6 +2,7 @@ pub mod TabulationLaws
 pub mod ChunkLaws
 pub mod PartLaws
 pub mod BlockLaws
+pub mod BlockBuffers
 pub mod HalfByteLaws
 pub mod XorLaws
 pub mod RefusalLaws

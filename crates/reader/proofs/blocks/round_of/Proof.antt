@@ -1,0 +1,60 @@
+-- `blocks::round_of` meets its contract. The invariant: k blocks went through the round, and the rest is as it was.
+use mathlib.Core.Path.{_≡_, refl, ap, _∙_}
+use mathlib.Core.List.{List, _++_}
+use Prim.Native.Nat.{ℕ, _-_, _*_, _≤_}
+use native.Mathlib.Omega.{arith}
+use borrow.Author.Needs.{needs}
+use lib.ListN.{length, drop}
+use Rattle.lists.specs.Tabulation.{chunks}
+use Rattle.lists.proofs.BlockBuffers.{Made, made-next, made-more}
+use Rattle.reading.specs.Tables.{readRound}
+use Rattle.table_reader.proofs.Typed.{array-block}
+use Rattle.reader.proofs.BlockLoops.{roundOf, length-round}
+use Rattle.reader.proofs.blocks.round_of.Statement.{statement}
+use Rattle.reader.proofs.blocks.round_of.Tie as tie
+
+abbrev Inv-loop : tie.InvT-loop
+Inv-loop t n out₀ k₀ out k = (k ≤ n) × Made (roundOf t out₀) out₀ k out × (length out ≡ length out₀)
+
+abbrev μ-loop : tie.MeasureT-loop
+μ-loop t n out₀ k₀ out k = n - k
+
+loop-holds : tie.Need-loop-holds Inv-loop μ-loop
+unfolding chunks
+loop-holds c = (omega arith, refl, refl)
+
+step-requires : tie.Need-step-requires Inv-loop μ-loop
+step-requires c κs = (c .before .before .before .before .before .before .before .pre .0, array-block _ _ (c .before .block-at .ok))
+
+loop-again : tie.Need-loop-again Inv-loop μ-loop
+loop-again c =
+    let at-put-block = c .before .before in
+    let at-step = at-put-block .before .before in
+    let at-block-at = at-step .before .before in
+    let l = at-block-at .before .before .before in
+    let a = l .before .before .before .args in
+    let v = l .loop .inv in
+    let f = roundOf (a .t .now) (a .out .now) in
+    let len = length-round (a .t .now) (a .out .now) in
+    let read = at-block-at .block-at .ensures ∙ made-next f len (a .out .now) (l .loop .k) (l .loop .out) (v .1) in (
+      omega arith,
+      at-put-block .put-block .ensures
+          ∙ made-more f len (a .out .now) (l .loop .k) (l .loop .out) (v .1) _ (at-step .step .ensures ∙ ap (readRound (a .t .now)) read),
+      at-put-block .put-block .kept .0 ∙ v .2,
+    )
+
+same-length : tie.Need-same-length Inv-loop μ-loop
+same-length c = c .before .loop .inv .2
+
+returns : tie.Need-returns Inv-loop μ-loop
+returns c =
+    let l = c .before in
+    let a = l .before .before .before .args in
+    let e : l .loop .k ≡ a .n = omega arith in
+    l .loop .inv .1 ∙ ap (λ (k : ℕ). chunks k (roundOf (a .t .now) (a .out .now)) ++ drop (16 * k) (a .out .now)) e
+
+pub round-of-spec : {M : Type 1} → statement M
+round-of-spec =
+    tie.close
+    (tie.spec Inv-loop μ-loop loop-holds (λ c. search needs) (λ c κs. search needs) step-requires (λ c κs. search needs) (λ c. search needs)
+    (λ c. search needs) loop-again same-length returns)
