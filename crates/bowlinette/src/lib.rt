@@ -13,6 +13,7 @@ use cipher::answer::BlockAnswer;
 use cipher::refusal::Written;
 use pad::code::TagCode;
 
+mod review; // review.rt: reading tables
 mod session; // session.rt: the tag session
 
 // An answer's block into out, and its number.

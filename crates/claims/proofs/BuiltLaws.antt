@@ -1,5 +1,5 @@
--- What an answer 0 of the builder tells: the key has a known size, the chain is valid, and the book in the buffer is that of
--- the key's rows and the chain. And when it is given: with every such key and chain, into a buffer with room.
+-- What an answer 0 of a builder tells: the key has a known size, the chain is valid, and the book, or the reading book, in the buffer is
+-- that of the key's rows and the chain. And when it is given: with every such key and chain, into a buffer with room.
 use mathlib.Core.Path.{_≡_, refl, sym, ap, _∙_, subst}
 use mathlib.Core.Bool.{Bool, true, false, cond, not, _||_}
 use mathlib.Core.List.{List, [], _∷_, _++_}
@@ -12,7 +12,7 @@ use Rattle.lists.specs.Refusals.{first}
 use Rattle.lists.proofs.RefusalLaws.{Clear}
 use Rattle.cipher.specs.Lea.{keyRows}
 use Rattle.cipher.specs.KeySize.{rounds, bookLength, sizeBy, sizeOfKey}
-use Rattle.cipher.specs.Chain.{Chain, chainTests, chainTestsBy}
+use Rattle.cipher.specs.Chain.{ChainBy, Chain, chainTestsBy}
 use Rattle.cipher.specs.Book.{bookOf, Book}
 use Rattle.cipher.specs.Answers.{keyLengthSize, keySize, roomTests}
 use Rattle.cipher.specs.declared.size.KeySize.{KeySize}
@@ -21,16 +21,25 @@ use Rattle.cipher.specs.declared.size.KeySize.the-variants.{Bytes16, Bytes24, B
 use Rattle.cipher.proofs.CheckLaws.{Numbered}
 use Rattle.cipher.proofs.ChainTests.{chain-tested}
 use Rattle.cipher.proofs.BookLaw.{book-size, book-made}
-use Rattle.book.specs.Answers.{buildTests, builtInto}
+use Rattle.book.specs.Answers.{buildTestsBy, builtInto}
 use Rattle.book.proofs.AnswerLaws.{built-done}
+use Rattle.reading.specs.Chain.{ReadingChain}
+use Rattle.reading.specs.Book.{readingBookOf, readingBookLength, ReadingBook}
+use Rattle.reading.proofs.ReadingBookLaw.{reading-book-size, reading-book-made}
 use Rattle.claims.specs.Built.{Built, bookIn, keyRounds}
+use Rattle.claims.specs.Review.{ReadingBuilt, readingBookIn}
 
--- ---- a valid chain and a key of its size give a book, in every buffer that has room for it
+-- ---- a valid chain and a key of its size give a book, a valid reading chain a reading book, in every buffer that has room for it
 
 pub any-built : (z : KeySize) (key ch out : List ℕ) → sizeOfKey (length key) ≡ Found z → Chain z ch → bookLength z ≤ length out
     → Built key ch out (bookOf (rounds z) (keyRows z key) ch ++ drop (bookLength z) out)
 any-built z key ch out e v h =
     sym (built-done 0 3 key ch out bookLength (λ y. bookOf (rounds y) (keyRows y key) ch) z e v h (bookOf (rounds z) (keyRows z key) ch) refl)
+
+pub any-reading-built : (z : KeySize) (key ch out : List ℕ) → sizeOfKey (length key) ≡ Found z → ReadingChain z ch → readingBookLength z ≤ length out
+    → ReadingBuilt key ch out (readingBookOf (rounds z) (keyRows z key) ch ++ drop (readingBookLength z) out)
+any-reading-built z key ch out e v h =
+    sym (built-done 3 0 key ch out readingBookLength (λ y. readingBookOf (rounds y) (keyRows y key) ch) z e v h (readingBookOf (rounds z) (keyRows z key) ch) refl)
 
 -- ---- what an answer 0 tells
 
@@ -62,32 +71,62 @@ size-known n = go (eqb n 16) (eqb n 24) (eqb n 32)
     go false false true e = refl
     go false false false e = let w : _≡_ {A = ℕ} 0 1 = cc in absurd (omega arith)
 
-module _ (key ch out held : List ℕ) (built : Built key ch out held) where
-  abbrev book : List ℕ
-  book = bookOf (keyRounds key) (keyRows (keySize key) key) ch
-
-  numbered : Numbered (buildTests key ch out bookLength)
+-- of anything that is built, with any word rule: the part that a key of a size and a chain make, of a length that goes with the size
+module _ (from to : ℕ) (key ch out held : List ℕ) (len : KeySize → ℕ) (part : KeySize → List ℕ)
+    (built : builtInto from to key ch out len part ≡ (0, held)) where
+  numbered : Numbered (buildTestsBy from to key ch out len)
   unfolding chainTestsBy
   numbered = (lit< tt, (lit< tt, (lit< tt, (lit< tt, (lit< tt, (lit< tt, tt))))))
 
-  parts : Clear (buildTests key ch out bookLength) × (book ++ drop (bookLength (keySize key)) out ≡ held)
+  parts : Clear (buildTestsBy from to key ch out len) × (part (keySize key) ++ drop (len (keySize key)) out ≡ held)
   unfolding builtInto
   parts =
-      let done : ℕ × List ℕ = (0, book ++ drop (bookLength (keySize key)) out) in
+      let done : ℕ × List ℕ = (0, part (keySize key) ++ drop (len (keySize key)) out) in
       let said = ap (λ (r : ℕ × List ℕ). r .0) built in
-      let p = not-refused (λ (r : ℕ × List ℕ). r .0) (λ n. (n, out)) (λ q. refl) done (buildTests key ch out bookLength) numbered said in
+      let p = not-refused (λ (r : ℕ × List ℕ). r .0) (λ n. (n, out)) (λ q. refl) done (buildTestsBy from to key ch out len) numbered said in
       (p .0, ap (λ (r : ℕ × List ℕ). r .1) (sym (p .1) ∙ built))
 
+  pub into-size : sizeOfKey (length key) ≡ Found (keySize key)
+  into-size = size-known (length key) (parts .0 .0)
+
+  pub into-chain : ChainBy from to (keySize key) ch
+  into-chain = chain-tested (keySize key) ch (clear-front (chainTestsBy from to (keySize key) ch) (roomTests (len (keySize key)) out) (parts .0 .1))
+
+  pub into-front : length (part (keySize key)) ≡ len (keySize key) → take (len (keySize key)) held ≡ part (keySize key)
+  into-front e =
+      ap (take (len (keySize key))) (sym (parts .1)) ∙ take-at (part (keySize key)) (drop (len (keySize key)) out) (len (keySize key)) e
+
+-- a book
+module _ (key ch out held : List ℕ) (built : Built key ch out held) where
+  abbrev bookFor : KeySize → List ℕ
+  bookFor z = bookOf (rounds z) (keyRows z key) ch
+
   pub built-size : sizeOfKey (length key) ≡ Found (keySize key)
-  built-size = size-known (length key) (parts .0 .0)
+  built-size = into-size 0 3 key ch out held bookLength bookFor built
 
   pub built-chain : Chain (keySize key) ch
-  built-chain = chain-tested (keySize key) ch (clear-front (chainTests (keySize key) ch) (roomTests (bookLength (keySize key)) out) (parts .0 .1))
+  built-chain = into-chain 0 3 key ch out held bookLength bookFor built
 
   pub built-is : bookIn key held ≡ bookOf (keyRounds key) (keyRows (keySize key) key) ch
-  built-is =
-      ap (take (bookLength (keySize key))) (sym (parts .1))
-      ∙ take-at book (drop (bookLength (keySize key)) out) (bookLength (keySize key)) (book-size (keyRounds key) (keyRows (keySize key) key) ch)
+  built-is = into-front 0 3 key ch out held bookLength bookFor built (book-size (keyRounds key) (keyRows (keySize key) key) ch)
 
   pub built-book : Book (keyRounds key) (keyRows (keySize key) key) ch (bookIn key held)
   built-book = subst (λ (b : List ℕ). Book (keyRounds key) (keyRows (keySize key) key) ch b) (sym built-is) (book-made (keyRounds key) (keyRows (keySize key) key) ch)
+
+-- a reading book
+module _ (key ch out held : List ℕ) (built : ReadingBuilt key ch out held) where
+  abbrev readingBookFor : KeySize → List ℕ
+  readingBookFor z = readingBookOf (rounds z) (keyRows z key) ch
+
+  pub reading-built-size : sizeOfKey (length key) ≡ Found (keySize key)
+  reading-built-size = into-size 3 0 key ch out held readingBookLength readingBookFor built
+
+  pub reading-built-chain : ReadingChain (keySize key) ch
+  reading-built-chain = into-chain 3 0 key ch out held readingBookLength readingBookFor built
+
+  pub reading-built-book : ReadingBook (keyRounds key) (keyRows (keySize key) key) ch (readingBookIn key held)
+  reading-built-book =
+      let r = keyRounds key in
+      let rows = keyRows (keySize key) key in
+      let is = into-front 3 0 key ch out held readingBookLength readingBookFor built (reading-book-size r rows ch) in
+      subst (λ (b : List ℕ). ReadingBook r rows ch b) (sym is) (reading-book-made r rows ch)

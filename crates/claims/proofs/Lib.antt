@@ -7,6 +7,7 @@ pub mod LentTheorem
 pub mod RoundsTheorem
 pub mod SealedText
 pub mod SealTheorem
+pub mod ReviewTheorem
 pub mod CmacBlocks
 pub mod RefusedCalls
 pub mod MessageCalls

@@ -1,24 +1,34 @@
 -- The premises of demand 3's theorems can be met: for each key size the identity chain is valid, and so is a chain of which no coding is
 -- the identity; with either and every key of that size a book is built. So none of the theorems is empty.
-use mathlib.Core.Path.{_≡_, refl, ap, _∙_}
+use mathlib.Core.Path.{_≡_, refl, sym, ap, _∙_}
 use mathlib.Core.Bool.{Bool, true, false, cond}
 use mathlib.Core.List.{List, _++_}
-use Prim.Native.Nat.{ℕ, suc, _+_, _*_, _%_, _≤_, _<_}
+use Prim.Native.Nat.{ℕ, suc, _+_, _*_, _/_, _%_, _≤_, _<_, zero-le}
+use native.Mathlib.Nat.{le-refl}
 use native.Mathlib.Omega.{arith}
 use borrow.Author.Tests.{eq-eqb, ne-eqb}
 use lib.Dec.{eqb, lit<}
-use lib.ListN.{length, drop}
+use lib.ListN.{length, drop, length-drop}
+use lib.Seq.{ext-getD, getD-take, length-take-le}
+use Rattle.lists.specs.Blocks.{Bytes, blockLength}
 use Rattle.cipher.specs.KeySize.{rounds, bookLength, sizeOfKey}
 use Rattle.cipher.specs.Lea.{keyRows}
 use Rattle.cipher.specs.Coding.{Permutation}
 use Rattle.cipher.specs.Chain.{messageSet, chainSet, middleSet, maskAt, Chain}
 use Rattle.cipher.specs.Book.{bookOf}
+use Rattle.cipher.specs.Lengths.{setLength, longestMessage}
+use Rattle.cipher.specs.Answers.{keySize}
+use Rattle.cipher.proofs.KeySizeLaws.{rounds-fours}
+use Rattle.reading.specs.Chain.{ReadingChain}
+use Rattle.reading.specs.Book.{readingBookOf, readingBookLength}
 use Rattle.cipher.specs.declared.size.KeySize.{KeySize}
 use Rattle.cipher.specs.declared.size.SizeFound.the-variants.{Found}
 use Rattle.cipher.proofs.ChainPartLaws.{message-read, set-read, middle-read, mask-read, from-valid}
-use Rattle.claims.specs.Identity.{identityChain, shift, shiftAt, shiftedChain}
-use Rattle.claims.specs.Built.{Built}
-use Rattle.claims.proofs.BuiltLaws.{any-built}
+use Rattle.claims.specs.Identity.{identityChain, shift, shiftAt, shiftedChain, shiftBackAt, shiftedReadingChain}
+use Rattle.claims.specs.Built.{Built, bookIn, archiveSet}
+use Rattle.claims.specs.Review.{ReadingBuilt, readingBookIn, firstSet, Reviewed}
+use Rattle.claims.proofs.BuiltLaws.{any-built, any-reading-built}
+use Rattle.claims.proofs.ReviewTheorem.{reviews}
 
 -- ---- both chains are valid
 
@@ -58,6 +68,51 @@ shifted-valid z =
       firsts = λ l i hl hi. ap (λ (b : Bool). cond b 0 1) (eq-eqb (8 * i % 8) 0 (omega arith));
     })
 
+-- the reading chain is one
+pub shifted-reading-valid : (z : KeySize) → ReadingChain z (shiftedReadingChain z)
+unfolding shiftedReadingChain
+shifted-reading-valid z =
+    from-valid 3 0 (lit< tt) (lit< tt) z _ _ _ _
+    (record {
+      message = λ w j hw hj. shifted-permutes (shiftBackAt 0 w j);
+      sets = λ l hl w j hw hj. shifted-permutes (shiftBackAt l w j);
+      middles = λ l i j hl hi hj. shifted-permutes (shiftBackAt l i j);
+      words = λ l hl j v hj hv. ap (λ (k : ℕ). shift (k + j) v) (omega arith);
+      bits = λ l k hl hk. mask-bit (eqb (k % 8) 0);
+      firsts = λ l i hl hi. ap (λ (b : Bool). cond b 0 1) (eq-eqb (8 * i % 8) 0 (omega arith));
+    })
+
+-- its set 0 is set r of the second chain, since the rounds are a multiple of four
+pub sets-meet : (key : List ℕ) → firstSet (shiftedReadingChain (keySize key)) ≡ archiveSet key (shiftedChain (keySize key))
+unfolding shiftedChain shiftedReadingChain
+sets-meet key =
+    ext-getD 0 (firstSet rch) (archiveSet key ch) (sym same) (λ k b.
+    let m : k < setLength = rw long at b in
+    let e : 16 * (8 * (k / 128) + k / 16 % 8) + k % 16 ≡ k = omega arith in
+    let f = byte (k / 128) (k / 16 % 8) (k % 16) (omega arith) (omega arith) (omega arith) in
+    getD-take setLength (drop setLength rch) k 0 m ∙ (rw e at f) ∙ sym (getD-take setLength (drop (setLength * suc r) ch) k 0 m))
+  where
+    r : ℕ
+    r = rounds (keySize key)
+
+    ch : List ℕ
+    ch = shiftedChain (keySize key)
+
+    rch : List ℕ
+    rch = shiftedReadingChain (keySize key)
+
+    long : length (firstSet rch) ≡ setLength
+    long = length-take-le setLength (drop setLength rch) (rw length-drop (omega (arith, shifted-reading-valid (keySize key) .size)))
+
+    same : length (archiveSet key ch) ≡ length (firstSet rch)
+    same = length-take-le setLength (drop (setLength * suc r) ch) (rw length-drop (omega (arith, shifted-valid (keySize key) .size))) ∙ sym long
+
+    byte : (w j v : ℕ) → w < 4 → j < 8 → v < 16 → chainSet rch 0 w j v ≡ chainSet ch r w j v
+    byte w j v hw hj hv =
+        set-read r _ _ _ _ 0 w j v zero-le hw hj hv
+        ∙ ap (λ (k : ℕ). shift (k + j) v) (omega (arith, rounds-fours (keySize key)))
+        ∙ sym (set-read r _ _ _ _ r w j v (le-refl r) hw hj hv)
+
 -- ---- no coding of the second is the identity: none sends 0 to 0; and masks are set
 
 module _ (z : KeySize) where
@@ -92,3 +147,24 @@ module _ (z : KeySize) (key : List ℕ) (e : sizeOfKey (length key) ≡ Found z)
 
   pub met-shifted : Built key (shiftedChain z) out (bookOf (rounds z) (keyRows z key) (shiftedChain z) ++ drop (bookLength z) out)
   met-shifted = any-built z key (shiftedChain z) out e (shifted-valid z) h
+
+-- ---- and beside the second a reading book, whose chain's set 0 is its set r: a message's file is read there
+
+module _ (key : List ℕ) (e : sizeOfKey (length key) ≡ Found (keySize key)) (out rout : List ℕ) (room : bookLength (keySize key) ≤ length out)
+    (rroom : readingBookLength (keySize key) ≤ length rout) where
+  abbrev z : KeySize
+  z = keySize key
+
+  abbrev filled : List ℕ
+  filled = bookOf (rounds z) (keyRows z key) (shiftedChain z) ++ drop (bookLength z) out
+
+  abbrev filledToRead : List ℕ
+  filledToRead = readingBookOf (rounds z) (keyRows z key) (shiftedReadingChain z) ++ drop (readingBookLength z) rout
+
+  pub met-reading : ReadingBuilt key (shiftedReadingChain (keySize key)) rout filledToRead
+  met-reading = any-reading-built z key (shiftedReadingChain z) rout e (shifted-reading-valid z) rroom
+
+  pub met-review : Bytes key → (m iv : List ℕ) → Bytes m → length m ≤ longestMessage → length iv ≡ blockLength
+      → Reviewed key (shiftedChain (keySize key)) (shiftedReadingChain (keySize key)) (bookIn key filled) (readingBookIn key filledToRead) iv m
+  met-review hk m iv hm most li =
+      reviews key (shiftedChain z) out filled (shiftedReadingChain z) rout filledToRead (met-shifted z key e out room) met-reading (sets-meet key) hk m iv hm most li

@@ -10,7 +10,10 @@ use Rattle.cipher.specs.Lengths.{roundLength}
 use Rattle.cipher.specs.Refusal.{refusalOrder}
 use Rattle.cipher.specs.Chain.{setTests, chainTestsBy}
 use Rattle.cipher.specs.Answers.{keyTests, keyBlockTests, chainCheckTests}
-use Rattle.book.specs.Answers.{buildTests}
+use Rattle.book.specs.Answers.{buildTests, buildTestsBy}
+use Rattle.reading.specs.Book.{readingBookLength}
+use Rattle.reading_book.specs.Answers.{readingChainCheckTests}
+use Rattle.reader.specs.Answers.{readTests}
 use Rattle.pad.specs.Answers.{codingTests}
 use Rattle.driver.specs.Driver.{bookTests, runRoundTests, runRoundsTests, sealTests, blockCallTests, lastCallTests}
 use Rattle.archive.specs.Archive.{allOpenTests, checkTests}
@@ -34,6 +37,9 @@ order = record {
   check-chain = λ n ch. in-order (chainCheckTests n ch) refl;
   building = λ key ch out. in-order (buildTests key ch out bookLength) refl;
   build-round = λ key ch out. in-order (buildTests key ch out (λ z. roundLength)) refl;
+  check-reading-chain = λ n ch. in-order (readingChainCheckTests n ch) refl;
+  building-reading = λ key ch out. in-order (buildTestsBy 3 0 key ch out readingBookLength) refl;
+  reading = λ bk iv sealed out. in-order (readTests bk iv sealed out) refl;
   code = λ u n total room. in-order (codingTests u n total room) refl;
   run-round = λ t b. in-order (runRoundTests t b) refl;
   run-rounds = λ bk b. in-order (runRoundsTests bk b) refl;

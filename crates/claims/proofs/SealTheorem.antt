@@ -70,7 +70,10 @@ module _ (key ch out held : List ℕ) (built : Built key ch out held) (hk : Byte
   good n e =
       text-good n (λ w. omega (arith, sealing-blocks m)) (omega (arith, sealing-most m most)) (omega (arith, sealing-blocks m))
 
-  opened-is : openedText (decipher (keySize key) key) (setOf s) iv (fileOf u book iv m) ≡ padded
+  pub file-good : badText (length (fileOf (padSet ch) (bookIn key held) iv m)) ≡ false
+  file-good = good (length (fileOf u book iv m)) file-length
+
+  pub opened-is : openedText (decipher (keySize key) key) (setOf (archiveSet key ch)) iv (fileOf (padSet ch) (bookIn key held) iv m) ≡ paddedForSealing m
   unfolding openedText
   opened-is =
       ap₂ (λ (d : List ℕ → List ℕ) (c : List ℕ). flatten (cbcDeciphered (decipher (keySize key) key) (d iv) (map d (blocks (sealed book iv c))))) (archive-decoded key ch valid) code-is

@@ -1,8 +1,9 @@
--- Two chains for each key size: the identity chain (document 01, "Table of examples", its first paragraph), and one of which no coding
--- is the identity and every mask that may be set is set. Both are valid (`PremisesMet`).
+-- Three chains for each key size: the identity chain (document 01, "Table of examples", its first paragraph), and one of which no coding
+-- is the identity and every mask that may be set is set. Both are valid (`PremisesMet`); and a
+-- reading chain of the second kind, whose set 0 is the second chain's set r.
 use mathlib.Core.Bool.{cond}
 use mathlib.Core.List.{List}
-use Prim.Native.Nat.{ℕ, _+_, _%_}
+use Prim.Native.Nat.{ℕ, _+_, _*_, _%_}
 use lib.Dec.{eqb}
 use Rattle.cipher.specs.KeySize.{rounds}
 use Rattle.cipher.specs.ChainParts.{chainFrom}
@@ -24,4 +25,13 @@ shiftAt l w j = (l + w) % 4 + j
 unfoldable pub shiftedChain : KeySize → List ℕ
 shiftedChain z =
     chainFrom (rounds z) (λ w j. shift (shiftAt 0 w j)) (λ l w j. shift (shiftAt l w j)) (λ l i j. shift (shiftAt l i j))
+    (λ l k. cond (eqb (k % 8) 0) 0 1)
+
+-- how far it shifts in set l of the reading chain: word 0 of a set as far as word 3 of the set before it
+abbrev pub shiftBackAt : ℕ → ℕ → ℕ → ℕ
+shiftBackAt l w j = (3 * l + w) % 4 + j
+
+unfoldable pub shiftedReadingChain : KeySize → List ℕ
+shiftedReadingChain z =
+    chainFrom (rounds z) (λ w j. shift (shiftBackAt 0 w j)) (λ l w j. shift (shiftBackAt l w j)) (λ l i j. shift (shiftBackAt l i j))
     (λ l k. cond (eqb (k % 8) 0) 0 1)

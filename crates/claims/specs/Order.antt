@@ -9,7 +9,10 @@ use Rattle.cipher.specs.Lengths.{roundLength}
 use Rattle.cipher.specs.Refusal.{refusalOrder}
 use Rattle.cipher.specs.Chain.{setTests}
 use Rattle.cipher.specs.Answers.{keyTests, keyBlockTests, chainCheckTests}
-use Rattle.book.specs.Answers.{buildTests}
+use Rattle.book.specs.Answers.{buildTests, buildTestsBy}
+use Rattle.reading.specs.Book.{readingBookLength}
+use Rattle.reading_book.specs.Answers.{readingChainCheckTests}
+use Rattle.reader.specs.Answers.{readTests}
 use Rattle.pad.specs.Answers.{codingTests}
 use Rattle.driver.specs.Driver.{bookTests, runRoundTests, runRoundsTests, sealTests, blockCallTests, lastCallTests}
 use Rattle.driver.specs.declared.session.Session.{Session}
@@ -31,6 +34,10 @@ pub record Order : Type 1 where
   -- the builder
   pub building : (key ch out : List ℕ) → InOrder (buildTests key ch out bookLength)
   pub build-round : (key ch out : List ℕ) → InOrder (buildTests key ch out (λ z. roundLength))
+  -- reading tables: the check of a reading chain, the builder, and reading
+  pub check-reading-chain : (n : ℕ) (ch : List ℕ) → InOrder (readingChainCheckTests n ch)
+  pub building-reading : (key ch out : List ℕ) → InOrder (buildTestsBy 3 0 key ch out readingBookLength)
+  pub reading : (bk iv sealed out : List ℕ) → InOrder (readTests bk iv sealed out)
   -- the pad, for sealing and for a tag: a message of n bytes, of which `total` are written into a buffer of `room` bytes
   pub code : (u : List ℕ) (n total room : ℕ) → InOrder (codingTests u n total room)
   -- the driver

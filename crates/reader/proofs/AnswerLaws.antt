@@ -15,8 +15,8 @@ use Rattle.cipher.specs.KeySize.{rounds}
 use Rattle.cipher.specs.Answers.{badText, blockTests, textTests, roomTests}
 use Rattle.cipher.specs.declared.size.KeySize.{KeySize}
 use Rattle.cipher.specs.declared.size.KeySize.the-variants.{Bytes16, Bytes24, Bytes32}
-use Rattle.cipher.specs.declared.size.SizeFound.the-variants.{Found, Unknown}
-use Rattle.cipher.proofs.KeySizeLaws.{none-of, one-of, found-length}
+use Rattle.cipher.specs.declared.size.SizeFound.the-variants.{Unknown}
+use Rattle.cipher.proofs.KeySizeLaws.{none-of, one-of}
 use Rattle.cipher.proofs.AnswerLaws.{block-refused, block-taken, text-known, text-refused, text-taken, room-refused, room-taken}
 use Rattle.reading.specs.Book.{readingBookLength, sizeOfReadingBook}
 use Rattle.reading.specs.Shown.{readText, readAt}

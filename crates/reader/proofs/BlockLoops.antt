@@ -7,10 +7,10 @@ use native.Mathlib.Omega.{arith}
 use lib.ListN.{length, take, drop, length-append, length-drop}
 use lib.Seq.{drop-at}
 use Rattle.lists.specs.Tabulation.{chunks}
-use Rattle.lists.specs.Blocks.{Block, blockOf, blockBefore}
+use Rattle.lists.specs.Blocks.{blockOf, blockBefore}
 use Rattle.lists.proofs.ChunkLaws.{chunks-ext}
 use Rattle.lists.proofs.PartLaws.{part-end}
-use Rattle.lists.proofs.BlockBuffers.{Made, made-none, made-rest, made-block, block-front}
+use Rattle.lists.proofs.BlockBuffers.{made-none, made-rest, made-block, block-front}
 use Rattle.cipher.specs.Lengths.{groupLength, roundLength}
 use Rattle.cipher.specs.Tables.{foldHalf, tableFold}
 use Rattle.cipher.proofs.CodingLaws.{block-halves}

@@ -1,6 +1,6 @@
 -- A reading round made byte by byte, the words side by side: what the loops have after m bytes of each, and that at the end it is the
 -- round.
-use mathlib.Core.Path.{_≡_, refl, sym, ap, _∙_}
+use mathlib.Core.Path.{_≡_, refl, ap, _∙_}
 use mathlib.Core.List.{List}
 use Prim.Native.Nat.{ℕ, zero, suc, _+_, _-_, _*_, _/_, _%_, _≤_, _<_}
 use native.Mathlib.Omega.{arith}
@@ -14,7 +14,7 @@ use Rattle.cipher.specs.Lengths.{addLength, addsLength, roundLength}
 use Rattle.cipher.specs.Coding.{blockHalf}
 use Rattle.cipher.proofs.CodingLaws.{block-halves}
 use Rattle.reading.specs.Lengths.{subtractsStart}
-use Rattle.reading.specs.Tables.{upperBack, lowerBack, turnBackAt, subtractAt, turnedAt, borrowAt, differenceAt, halfRead, readRound}
+use Rattle.reading.specs.Tables.{upperBack, lowerBack, subtractAt, turnedAt, borrowAt, differenceAt, halfRead, readRound}
 use Rattle.reading.proofs.ReadingRoundLaw.{read-lt}
 use Rattle.table_reader.specs.Reading.{TwoIs, byteOf, threeWords, turnHalf, turnByte}
 use Rattle.table_reader.proofs.ReadingLaws.{three, four}

@@ -1,6 +1,6 @@
 -- A reading round byte by byte: the inner functions' own words for the definitions of `Rattle.reading.specs.Tables`.
 use mathlib.Core.List.{List}
-use Prim.Native.Nat.{ℕ, _+_, _*_, _<_}
+use Prim.Native.Nat.{ℕ, _+_, _*_}
 use lib.ListN.{getD}
 use Rattle.reading.specs.Tables.{turnedAt}
 use Rattle.table_reader.specs.Reading.{TwoIs, threeWords}

@@ -20,7 +20,8 @@ use Rattle.cipher.specs.Tables.{RoundCodings, ValidCodings}
 use Rattle.cipher.proofs.WordLaws.{add-word, sub-word, xor-word}
 use Rattle.cipher.proofs.Permutation.{decode-code, decode-ext}
 use Rattle.cipher.proofs.CodingLaws.{blockHalf-lt}
-use Rattle.reading.specs.Tables.{turnBackEntry, sumCoding, upperBack, lowerBack, turnBackTable, subtractTable, ValidReadingRound}
+use Rattle.reading.specs.LikeSealing.{sumCoding}
+use Rattle.reading.specs.Tables.{turnBackEntry, upperBack, lowerBack, turnBackTable, subtractTable, ValidReadingRound}
 use Rattle.reading.specs.Tables.{subtractAt, ReadingTables, turnedAt, borrowAt, differenceAt, halfRead, readRound}
 use Rattle.reading.proofs.TurnsBack.{backTurn, back-word, half-back, upper-lt, lower-lt}
 use Rattle.reading.proofs.Complements.{rest, half-rest, sub-rest}

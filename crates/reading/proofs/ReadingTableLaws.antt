@@ -12,7 +12,8 @@ use Rattle.cipher.specs.Coding.{Permutation, decode}
 use Rattle.cipher.specs.Tables.{addSum, carryHeld, addEntry, turned, turnEntry}
 use Rattle.cipher.proofs.Permutation.{decode-lt}
 use Rattle.cipher.proofs.TableLaws.{add-rows, turn-rows}
-use Rattle.reading.specs.Tables.{turnedBack, cutOf, turnBackEntry, difference, subtractEntry, sumCoding}
+use Rattle.reading.specs.LikeSealing.{cutOf, sumCoding}
+use Rattle.reading.specs.Tables.{turnedBack, turnBackEntry, difference, subtractEntry}
 
 -- ---- turn tables
 

@@ -3,3 +3,4 @@ pub mod Tables
 pub mod Chain
 pub mod Book
 pub mod Shown
+pub mod LikeSealing

@@ -21,12 +21,6 @@ turnedBack zero u v = (8 * u + v / 2) % 16
 turnedBack (suc zero) u v = (2 * u + v / 8) % 16
 turnedBack (suc (suc i)) u v = (8 * u + v / 2) % 16
 
--- the word of a sealing book that is cut as word i is here
-abbrev pub cutOf : ℕ → ℕ
-cutOf zero = 1
-cutOf (suc zero) = 0
-cutOf (suc (suc i)) = 1
-
 -- an entry of a turn table for word i at index n = 16p + q: p decoded by f and q by g, the result coded by h
 unfoldable pub turnBackEntry : ℕ → (ℕ → ℕ) → (ℕ → ℕ) → (ℕ → ℕ) → ℕ → ℕ
 turnBackEntry i f g h n = h (turnedBack i (decode f (n / 16)) (decode g (n % 16)))
@@ -40,10 +34,6 @@ difference f g k m n = 16 + decode f (n / 16 % 16) - (bitXor (decode g (n % 16))
 -- byte l and is coded by h; m is the mask of the borrow out; the top half byte keeps none
 unfoldable pub subtractEntry : ℕ → (ℕ → ℕ) → ℕ → ℕ → ℕ → ℕ
 subtractEntry j h l m d = 16 * carryHeld j (1 - d / 16) m + h (bitXor (d % 16) l)
-
--- the coding of the sums of the add table that a subtract table is: h is that of the difference, l its key half byte
-abbrev pub sumCoding : (ℕ → ℕ) → ℕ → ℕ → ℕ
-sumCoding h l x = h (bitXor x (bitXor 15 l))
 
 -- ---- the tables of a round
 

@@ -19,7 +19,8 @@ use Rattle.cipher.specs.Chain.{maskInto, maskOutOf}
 use Rattle.cipher.specs.Book.{twoKinds}
 use Rattle.cipher.proofs.InverseLaws.{low-set}
 use Rattle.reading.specs.Lengths.{subtractLength}
-use Rattle.reading.specs.Tables.{cutOf, sumCoding, upperBack, lowerBack, turnBackTable, subtractTable}
+use Rattle.reading.specs.LikeSealing.{cutOf, sumCoding}
+use Rattle.reading.specs.Tables.{upperBack, lowerBack, turnBackTable, subtractTable}
 use Rattle.reading.specs.Book.{readingPart}
 use Rattle.reading.proofs.ReadingTableLaws.{turn-back-rows, subtract-rows}
 use Rattle.table_maker.specs.Rows.{tableBy}

@@ -9,7 +9,8 @@ use Rattle.cipher.specs.Lengths.{codingLength}
 use Rattle.cipher.specs.Coding.{codingAt}
 use Rattle.cipher.specs.Tables.{addEntry}
 use Rattle.cipher.specs.Chain.{maskInto, maskOutOf}
-use Rattle.reading.specs.Tables.{cutOf, sumCoding, upperBack, lowerBack}
+use Rattle.reading.specs.LikeSealing.{cutOf, sumCoding}
+use Rattle.reading.specs.Tables.{upperBack, lowerBack}
 use Rattle.table_maker.specs.Rows.{tableBy}
 use Rattle.table_maker.specs.Made.{keyedBy, summands, turnedRows}
 

@@ -1,7 +1,7 @@
 -- The new words of a round made byte by byte, all four side by side: that at the end it is the round.
 use mathlib.Core.Path.{_≡_, refl, sym, ap, _∙_}
 use mathlib.Core.List.{List}
-use Prim.Native.Nat.{ℕ, zero, suc, _+_, _-_, _*_, _/_, _%_, _<_}
+use Prim.Native.Nat.{ℕ, _+_, _-_, _*_, _%_, _<_}
 use native.Mathlib.Nat.{zero-add}
 use native.Mathlib.Omega.{arith}
 use lib.Dec.{lit<}
@@ -10,7 +10,7 @@ use lib.Seq.{getD-drop}
 use Rattle.lists.specs.Blocks.{Bytes}
 use Rattle.lists.proofs.PartLaws.{part-end}
 use Rattle.cipher.specs.Lengths.{addsLength, turnLength}
-use Rattle.cipher.specs.Coding.{blockHalf, ofHalves}
+use Rattle.cipher.specs.Coding.{blockHalf}
 use Rattle.cipher.specs.Tables.{upper, lower, sumAt, newAt, halfAfter, tableRound}
 use Rattle.table_reader.specs.Reading.{byteOf, sumBytes, turnHalf, turnByte}
 use Rattle.table_reader.proofs.ReadingLaws.{half-lo, half-hi, four}

@@ -1,6 +1,6 @@
 -- `blocks::folds` meets its contract. The invariant: k blocks are folded, the rest is as it was, and `before` stands in front of the next.
 use mathlib.Core.Path.{_≡_, refl, ap, ap₂, _∙_}
-use mathlib.Core.List.{List, _++_}
+use mathlib.Core.List.{_++_}
 use Prim.Native.Nat.{ℕ, _-_, _*_, _≤_}
 use native.Mathlib.Omega.{arith}
 use borrow.Author.Needs.{needs}

@@ -2,7 +2,6 @@
 use Prim.Native.Nat.{_-_, _≤_}
 use native.Mathlib.Omega.{arith}
 use borrow.Author.Needs.{needs}
-use lib.ListN.{length}
 use Rattle.reader.proofs.BlockLoops.{tables-room, Rounded, rounded-none, rounded-more, rounded-all}
 use Rattle.reader.proofs.blocks.rounds.Statement.{statement}
 use Rattle.reader.proofs.blocks.rounds.Tie as tie

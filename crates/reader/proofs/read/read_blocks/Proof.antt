@@ -1,10 +1,10 @@
 -- `read::read_blocks` meets its contract.
-use mathlib.Core.Path.{_≡_, sym, ap, _∙_}
-use mathlib.Core.List.{List, _++_}
+use mathlib.Core.Path.{ap, _∙_}
+use mathlib.Core.List.{_++_}
 use Prim.Native.Nat.{ℕ, _*_}
 use native.Mathlib.Omega.{arith}
 use borrow.Author.Needs.{needs}
-use lib.ListN.{length, drop}
+use lib.ListN.{drop}
 use Rattle.lists.specs.Tabulation.{chunks}
 use Rattle.lists.proofs.PartLaws.{part-end}
 use Rattle.cipher.proofs.KeySizeLaws.{rounds-le, rounds-more}

@@ -24,12 +24,15 @@ loop-again c =
     let at-turn-two = at-turn-two2 .before .before in
     let l = at-turn-two .before .before .before .before in
     let e = l .before .before .before in
-    (omega arith, turns-step _ _ _ _ _ _ _ _ _ (omega arith) (e .pre .1 .bytes) (e .pre .2) refl (l .loop .inv .1) (at-turn-two .turn-two .ensures) (at-turn-two2 .turn-two2 .ensures) (c .turn-two3 .ensures))
+    let made = turns-step _ _ _ _ _ _ _ _ _ (omega arith) (e .pre .1 .bytes) (e .pre .2) refl (l .loop .inv .1) in
+    (omega arith, made (at-turn-two .turn-two .ensures) (at-turn-two2 .turn-two2 .ensures) (c .turn-two3 .ensures))
 
 returns : tie.Need-returns Inv-loop μ-loop
 returns c = turns-full _ _ _ _ (omega arith) (c .before .loop .inv .1)
 
 pub turns-spec : {M : Type 1} → statement M
-turns-spec = tie.close (tie.spec Inv-loop μ-loop (λ c. search needs) (λ c. search needs) (λ c. search needs) loop-holds (λ c. search needs) (λ c. search needs) (λ c. search needs) (λ c κs. search needs)
-    (λ c. search needs) (λ c κs. search needs) (λ c. search needs) (λ c. search needs) (λ c κs. search needs) (λ c. search needs) (λ c. search needs)
-    (λ c. search needs) (λ c. search needs) loop-again returns)
+turns-spec =
+    tie.close
+    (tie.spec Inv-loop μ-loop (λ c. search needs) (λ c. search needs) (λ c. search needs) loop-holds (λ c. search needs) (λ c. search needs)
+    (λ c. search needs) (λ c κs. search needs) (λ c. search needs) (λ c κs. search needs) (λ c. search needs) (λ c. search needs)
+    (λ c κs. search needs) (λ c. search needs) (λ c. search needs) (λ c. search needs) (λ c. search needs) loop-again returns)
