@@ -50,13 +50,7 @@ fn cipher(size: Size) {
     );
     row("schedule", key.len(), schedule);
     let mac = Times::of(
-        || {
-            _ = hide(bowlinette::cbc_mac(
-                hide(key),
-                hide(text),
-                hide(&mut out),
-            ))
-        },
+        || _ = hide(bowlinette::cbc_mac(hide(key), hide(text), hide(&mut out))),
         || _ = hide(lea::cbc_mac(hide(key), hide(text))),
     );
     row("CBC-MAC 65536", key.len(), mac);

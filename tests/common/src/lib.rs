@@ -11,9 +11,9 @@ pub mod driver;
 pub mod lent;
 pub mod pad;
 pub mod random;
+pub mod roundtrip;
 pub mod session;
 pub mod version;
-pub mod roundtrip;
 
 pub use lent::{FILL, LENGTH};
 pub use random::Random;

@@ -10,9 +10,9 @@ use shared::book::{build, build_round, check_chain, check_set};
 use shared::cmac::cmac;
 use shared::driver::{round, rounds, seal};
 use shared::pad::{code, due, Use};
+use shared::roundtrip;
 use shared::session::{tag, Both, Call};
 use shared::version::{PROVED, REFERENCE};
-use shared::roundtrip;
 use std::fmt::Debug;
 
 pub struct Round<'a> {
