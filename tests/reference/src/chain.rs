@@ -111,8 +111,9 @@ pub fn check_set(set: &[u8]) -> Result<(), u32> {
     }
 }
 
-/// Codings inverted, each in its place.
-pub fn invert(codings: &[u8], out: &mut [u8]) {
+/// Codings of so many bytes inverted, each in its place.
+pub fn inverted<const N: usize>(codings: &[u8]) -> [u8; N] {
+    let mut out = [0; N];
     for (coding, inverse) in codings
         .chunks_exact(CODING)
         .zip(out.chunks_exact_mut(CODING))
@@ -121,6 +122,7 @@ pub fn invert(codings: &[u8], out: &mut [u8]) {
             inverse[usize::from(image) % CODING] = v as u8;
         }
     }
+    out
 }
 
 /// A block coded by a set: half byte p, in byte p / 2 and low if p is even, by coding p.
@@ -134,9 +136,7 @@ pub fn code(set: &[u8], block: &Block) -> Block {
 
 /// A block decoded by a set.
 pub fn decode(set: &[u8], coded: &Block) -> Block {
-    let mut inverse = [0; SET];
-    invert(set, &mut inverse);
-    code(&inverse, coded)
+    code(&inverted::<SET>(set), coded)
 }
 
 /// What each byte becomes in each place of a block coded by a set.
@@ -155,9 +155,7 @@ pub fn images(set: &[u8]) -> [[u8; 256]; 16] {
 
 /// What each byte becomes in each place of a block decoded by a set.
 pub fn preimages(set: &[u8]) -> [[u8; 256]; 16] {
-    let mut inverse = [0; SET];
-    invert(set, &mut inverse);
-    images(&inverse)
+    images(&inverted::<SET>(set))
 }
 
 /// A random valid chain; `below` gives a number below its argument.
