@@ -59,7 +59,7 @@ impl Given {
         let built = books::built(size, &mut random);
         let (message, block) = (random.bytes(LENGTHS[1]), random.block());
         let coded = [message.as_slice(), &[1]].concat();
-        let sealed = sealed_text(&built.key, last_set(&built.chain), &block, &coded);
+        let sealed = sealed_text(&built.key, built.last_set(), &block, &coded);
         Given {
             built,
             message,
@@ -68,12 +68,6 @@ impl Given {
             block,
         }
     }
-}
-
-/// The last set of a chain.
-fn last_set(chain: &[u8]) -> &[u8] {
-    let rounds = (chain.len() - 1_024) / 920;
-    &chain[SET * (rounds + 1)..][..SET]
 }
 
 /// The operations on a key, a chain and a block.
@@ -134,8 +128,7 @@ fn of_books(g: &Given) -> Vec<(&'static str, usize)> {
 
 /// The operations on a message.
 fn of_messages(g: &Given) -> Vec<(&'static str, usize)> {
-    let Built { key, chain, .. } = &g.built;
-    let (u, set) = (&chain[..SET], last_set(chain));
+    let (key, u, set) = (&g.built.key, g.built.message_set(), g.built.last_set());
     let (mut out, mut length, mut small) = (vec![0; g.coded.len()], 0, 0);
     let mut tag_code = out.clone();
     let sealing = || bowlinette::code_for_sealing(u, &g.message, &mut out, &mut length);

@@ -84,24 +84,20 @@ fn the_example_of_two_rounds() {
     assert_eq!(rounds(&book, 24, &block), Ok(last));
 }
 
-/// A book with the bits that a reader does not use changed.
-fn stirred(book: &[u8], random: &mut Random) -> Vec<u8> {
-    let noise = random.bytes(book.len());
-    let unused = |at: usize| match at.checked_sub(START) {
+/// The bits that a reader does not use of the byte at a place of a book.
+fn unused(at: usize) -> u8 {
+    match at.checked_sub(START) {
         None => 0,
         Some(k) if k >= 3 * GROUP && (k - 3 * GROUP) % ROUND < MIDDLES * ADD => 0xe0,
         Some(_) => 0xf0,
-    };
-    let changed = |(at, x): (usize, &u8)| x ^ noise[at] & unused(at);
-    book.iter().enumerate().map(changed).collect()
+    }
 }
 
 #[test]
 fn bits_that_a_reader_does_not_use() {
     let mut random = Random(73);
     for (size, book) in books::any(&mut random) {
-        let other = stirred(&book, &mut random);
-        assert!(other != book);
+        let other = books::stirred(&book, unused, &mut random);
         let (iv, coded) = (random.bytes(16), random.bytes(512));
         for block in coded.chunks_exact(16) {
             let told = rounds(&book, usize::MAX, block);
