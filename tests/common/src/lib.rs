@@ -17,3 +17,8 @@ pub mod version;
 
 pub use lent::{FILL, LENGTH};
 pub use random::Random;
+
+/// The first, a middle and the last of so many.
+pub fn places(count: usize) -> [usize; 3] {
+    [0, count / 2, count - 1]
+}
