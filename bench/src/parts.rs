@@ -115,6 +115,8 @@ pub fn print() {
     heading("message", ["Rattle", "plain Rust"]);
     for (n, given) in &given {
         row("seal, key 16", *n, driver::seal(given, Shape::Plain));
+        let sealed = driver::Given::sealed(Size::Lea128, *n);
+        row("read, key 16", *n, driver::read(&sealed, Shape::Plain));
         row("tag, key 16", *n, driver::tag(given, Shape::Plain));
     }
     println!("Stack, in bytes");
