@@ -24,17 +24,18 @@ extern "C" {
 
 /* The version of this interface. */
 #define BOWLINETTE_VERSION_MAJOR 1
-#define BOWLINETTE_VERSION_MINOR 0
-#define BOWLINETTE_VERSION "1.0"
+#define BOWLINETTE_VERSION_MINOR 1
+#define BOWLINETTE_VERSION "1.1"
 
 /* What is returned. */
 #define BOWLINETTE_DONE 0
 #define BOWLINETTE_REFUSED_KEY_LENGTH 1     /* the key is not of 16, 24 or 32 bytes */
 #define BOWLINETTE_REFUSED_CHAIN_LENGTH 2   /* wrong length of a chain for the key, or of a set */
 #define BOWLINETTE_REFUSED_NO_PERMUTATION 3 /* a coding is no permutation of 0 to 15 */
-#define BOWLINETTE_REFUSED_WORD_RULE 4      /* word 3 of a set differs from word 0 of the set before */
+#define BOWLINETTE_REFUSED_WORD_RULE 4      /* word 3 of a set differs from word 0 of the set before; in a
+                                               reading chain, word 0 from word 3 */
 #define BOWLINETTE_REFUSED_MASK 5           /* a mask is over 1, or not 0 for half byte 0 */
-#define BOWLINETTE_REFUSED_BOOK_LENGTH 6    /* the book has none of the three lengths */
+#define BOWLINETTE_REFUSED_BOOK_LENGTH 6    /* the book, or reading book, has none of its three lengths */
 #define BOWLINETTE_REFUSED_BLOCK_LENGTH 7   /* the block, IV or tag is not of 16 bytes */
 #define BOWLINETTE_REFUSED_MESSAGE_LENGTH 8 /* the message, coded or sealed or not, has a wrong length */
 #define BOWLINETTE_REFUSED_ROOM 9           /* out is too short */
@@ -72,26 +73,30 @@ extern "C" {
 #define BOWLINETTE_SESSION_LENGTH 19
 #define BOWLINETTE_BLOCK_CALLS_MAX 65535
 
-/* The three key sizes: the key in bytes, its rounds, its chain and its book in bytes. */
+/* The three key sizes: the key in bytes, its rounds, its chain, book and reading book in bytes. */
 #define BOWLINETTE_KEY_LENGTH_128 16
 #define BOWLINETTE_ROUNDS_128 24
 #define BOWLINETTE_CHAIN_LENGTH_128 23104
 #define BOWLINETTE_BOOK_LENGTH_128 466960
+#define BOWLINETTE_READING_LENGTH_128 450560
 
 #define BOWLINETTE_KEY_LENGTH_192 24
 #define BOWLINETTE_ROUNDS_192 28
 #define BOWLINETTE_CHAIN_LENGTH_192 26784
 #define BOWLINETTE_BOOK_LENGTH_192 540688
+#define BOWLINETTE_READING_LENGTH_192 524288
 
 #define BOWLINETTE_KEY_LENGTH_256 32
 #define BOWLINETTE_ROUNDS_256 32
 #define BOWLINETTE_CHAIN_LENGTH_256 30464
 #define BOWLINETTE_BOOK_LENGTH_256 614416
+#define BOWLINETTE_READING_LENGTH_256 598016
 
 /*
  * Where the parts of a chain of r rounds begin: the message set U, set l (l from 0 to r), and what it has
  * for round l (l from 0 to r - 1), 24 middle codings and then 24 masks. The pad is given U, the archive
- * set r.
+ * set r. A reading chain has the same parts: its set 0 is set r of the chain of the book that seals, and
+ * what is read is coded by its U.
  */
 #define BOWLINETTE_CHAIN_MESSAGE_SET 0
 #define BOWLINETTE_CHAIN_SET(l) (512 + 512 * (size_t)(l))
@@ -110,6 +115,17 @@ extern "C" {
 #define BOWLINETTE_BOOK_ROUND(l) (24592 + 18432 * (size_t)(l))
 #define BOWLINETTE_ROUND_TURNS 12288
 
+/*
+ * Where the parts of a reading book begin: the tables of reading round l, and after the last of them its
+ * one group of fold tables. In a reading round come 24 turn tables of 256 bytes, then 24 subtract tables
+ * of 512.
+ */
+#define BOWLINETTE_READING_ROUND(l) (18432 * (size_t)(l))
+#define BOWLINETTE_READING_SUBTRACTS 6144
+#define BOWLINETTE_READING_FOLDS_128 442368
+#define BOWLINETTE_READING_FOLDS_192 516096
+#define BOWLINETTE_READING_FOLDS_256 589824
+
 /* What a returned number means, as a sentence. */
 static inline const char *bowlinette_text(uint32_t refusal)
 {
@@ -123,11 +139,12 @@ static inline const char *bowlinette_text(uint32_t refusal)
     case BOWLINETTE_REFUSED_NO_PERMUTATION:
         return "A coding is no permutation of 0 to 15.";
     case BOWLINETTE_REFUSED_WORD_RULE:
-        return "Word 3 of a set of the chain is not coded as word 0 of the set before it.";
+        return "Word 3 of a set of the chain is not coded as word 0 of the set before it, or in a "
+               "reading chain word 0 as word 3.";
     case BOWLINETTE_REFUSED_MASK:
         return "A mask of the chain is over 1, or not 0 for half byte 0.";
     case BOWLINETTE_REFUSED_BOOK_LENGTH:
-        return "The book, or the tables of a round, have a length that none has.";
+        return "The book, the reading book or the tables of a round have a length that none has.";
     case BOWLINETTE_REFUSED_BLOCK_LENGTH:
         return "The block, IV or tag is not of 16 bytes.";
     case BOWLINETTE_REFUSED_MESSAGE_LENGTH:
@@ -197,6 +214,14 @@ uint32_t bowlinette_check_chain(size_t key_length,
                                 const uint8_t *chain, size_t chain_length);
 
 /*
+ * Checks a reading chain for keys of a length. It is laid out as a chain is, but word 0 of each set after
+ * set 0 is coded as word 3 of the set before it.
+ * Refuses 1 (key length), then 2 (chain length), 3 (permutations), 4 (the word 0 rule), 5 (masks).
+ */
+uint32_t bowlinette_check_reading_chain(size_t key_length,
+                                        const uint8_t *chain, size_t chain_length);
+
+/*
  * Builds the book of a key and a chain and writes it to the front of out, which may be longer: the
  * bytes after the book stay as they were. The chain and the book have the lengths above.
  * Refuses 1 (key length), 2 to 5 (the chain), then 9 (out shorter than the book).
@@ -214,6 +239,16 @@ uint32_t bowlinette_build_round(const uint8_t *key, size_t key_length,
                                 const uint8_t *chain, size_t chain_length,
                                 size_t round,
                                 uint8_t *out, size_t out_length);
+
+/*
+ * Builds the reading book of a key and a reading chain and writes it to the front of out, which may be
+ * longer: the bytes after the book stay as they were. It reads what the book of the same key seals whose
+ * chain's last set is the reading chain's set 0.
+ * Refuses 1 (key length), 2 to 5 (the reading chain), then 9 (out shorter than the reading book).
+ */
+uint32_t bowlinette_build_reading(const uint8_t *key, size_t key_length,
+                                  const uint8_t *chain, size_t chain_length,
+                                  uint8_t *out, size_t out_length);
 
 /*
  * Codes a message for sealing: pads it by PKCS#7 with 1 to 16 bytes, codes its blocks by the set u
@@ -239,8 +274,8 @@ uint32_t bowlinette_code_for_tag(const uint8_t *u, size_t u_length,
 
 /*
  * The functions below use a book's length to know its rounds, and read its bytes as they are: of an
- * entry of an add table the bits 0 to 4, of any other entry the bits 0 to 3. Blocks go in and come
- * out coded.
+ * entry of an add or subtract table the bits 0 to 4, of any other entry the bits 0 to 3. Blocks go in
+ * and come out coded.
  *
  * Takes one block through the tables of one round, 18,432 bytes, and writes the 16 bytes that stand
  * after it to out.
@@ -270,6 +305,22 @@ uint32_t bowlinette_run_rounds(const uint8_t *book, size_t book_length,
 uint32_t bowlinette_seal(const uint8_t *book, size_t book_length,
                          const uint8_t *iv, size_t iv_length,
                          const uint8_t *coded, size_t coded_length,
+                         uint8_t *out, size_t out_length,
+                         uint64_t *length);
+
+/*
+ * Reads a sealed message by a reading book: each block goes through the rounds, is folded with the sealed
+ * block before it, the first with the IV, and is written, to the front of out, which may be longer: the
+ * bytes after them stay as they were. How many were written, as many as were read, goes to length. They
+ * are coded by the reading chain's U, padding and all.
+ * Refuses 6 (length of the reading book), 7 (IV length), 8 (sealed empty, over 1,048,576 bytes or no
+ * multiple of 16), then 9 (out shorter than sealed).
+ * TAKE CARE: nothing is checked of what was sealed. Bytes that nobody sealed, or that were changed, are
+ * read too; a tag is checked where the key is.
+ */
+uint32_t bowlinette_read(const uint8_t *book, size_t book_length,
+                         const uint8_t *iv, size_t iv_length,
+                         const uint8_t *sealed, size_t sealed_length,
                          uint8_t *out, size_t out_length,
                          uint64_t *length);
 

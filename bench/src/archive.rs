@@ -3,6 +3,7 @@
 use crate::timing::Times;
 use reference::{archive, lea, Size};
 use shared::archive::sealed_text;
+use shared::pad::padded;
 use shared::{chains, Random};
 use std::hint::black_box as hide;
 
@@ -20,10 +21,9 @@ impl Given {
     pub fn new(size: Size, n: usize) -> Given {
         let mut random = Random(1);
         let (key, set) = (random.bytes(size.key_bytes()), chains::set(&mut random));
-        let (message, iv, added) = (random.bytes(n), random.block(), 16 - n % 16);
-        let text = [message.as_slice(), &vec![added as u8; added]].concat();
+        let (message, iv) = (random.bytes(n), random.block());
         Given {
-            sealed: sealed_text(&key, &set, &iv, &text),
+            sealed: sealed_text(&key, &set, &iv, &padded(&message)),
             key,
             set,
             message,

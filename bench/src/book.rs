@@ -1,7 +1,7 @@
-//! Checking a chain, and building a book from a key and a chain.
+//! Checking a chain, and building a book or a reading book from a key and a chain.
 
 use crate::timing::Times;
-use reference::{book, chain, Size};
+use reference::{book, chain, reading, Size};
 use shared::{chains, Random};
 use std::hint::black_box as hide;
 
@@ -12,28 +12,44 @@ struct Given {
 }
 
 impl Given {
-    fn new(size: Size) -> Given {
+    fn new(size: Size, chain: impl Fn(Size, &mut Random) -> Vec<u8>) -> Given {
         let mut random = Random(3);
         Given {
             key: random.bytes(size.key_bytes()),
-            chain: chains::valid(size, &mut random),
+            chain: chain(size, &mut random),
         }
+    }
+
+    /// A book of so many bytes built.
+    fn build(
+        &self,
+        room: usize,
+        rattle: fn(&[u8], &[u8], &mut [u8]) -> u32,
+        rust: fn(&[u8], &[u8], &mut [u8]) -> Result<(), u32>,
+    ) -> Times {
+        let (mut out, mut other) = (vec![0; room], vec![0; room]);
+        let times = Times::of(
+            || _ = hide(rattle(hide(&self.key), hide(&self.chain), &mut out)),
+            || _ = hide(rust(hide(&self.key), hide(&self.chain), &mut other)),
+        );
+        assert!(out == other);
+        times
     }
 }
 
 pub fn build(size: Size) -> Times {
-    let (g, room) = (Given::new(size), size.book_bytes());
-    let (mut out, mut other) = (vec![0; room], vec![0; room]);
-    let times = Times::of(
-        || _ = hide(bowlinette::build(hide(&g.key), hide(&g.chain), &mut out)),
-        || _ = hide(book::build(hide(&g.key), hide(&g.chain), &mut other)),
-    );
-    assert!(out == other);
-    times
+    let given = Given::new(size, chains::valid);
+    given.build(size.book_bytes(), bowlinette::build, book::build)
+}
+
+pub fn build_reading(size: Size) -> Times {
+    let given = Given::new(size, |size, random| chains::reading(size, None, random));
+    let rattle = bowlinette::build_reading;
+    given.build(size.reading_bytes(), rattle, reading::build)
 }
 
 pub fn check_chain(size: Size) -> Times {
-    let Given { key, chain } = Given::new(size);
+    let Given { key, chain } = Given::new(size, chains::valid);
     Times::of(
         || _ = hide(bowlinette::check_chain(hide(key.len()), hide(&chain))),
         || _ = hide(chain::check(hide(key.len()), hide(&chain)).is_ok()),

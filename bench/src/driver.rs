@@ -1,11 +1,12 @@
-//! Rounds, sealing and tags from a book, beside Rust of two shapes: straight loops over half bytes
-//! (`reference::driver`, plain) and the proved driver's shape (`packed`, alike). Each block comes out of
-//! the one before, as in a message, so that the tables are read all over.
+//! Rounds, sealing, reading and tags from a book, beside Rust of two shapes: straight loops over half bytes
+//! (`reference::driver` and `reading`, plain) and the proved driver's shape (`packed` and `packed_reading`,
+//! alike). Each block comes out of the one before, as in a message, or is random where it is read, so that
+//! the tables are read all over.
 
-use crate::packed;
 use crate::timing::Times;
+use crate::{packed, packed_reading};
 use bowlinette::Session;
-use reference::{driver, lea::Block, Size};
+use reference::{driver, lea::Block, reading, Size};
 use shared::lent::{answer, told};
 use shared::{books, Random};
 use std::hint::black_box as hide;
@@ -20,7 +21,7 @@ pub enum Shape {
 /// The IV, and the first block of those that go through the rounds.
 const IV: Block = [5; 16];
 
-/// A random book, and so many coded bytes.
+/// A random book, and so many coded bytes; or a random reading book, and so many sealed ones.
 pub struct Given {
     book: Vec<u8>,
     coded: Vec<u8>,
@@ -36,19 +37,45 @@ impl Given {
             coded: random.bytes(n / 16 * 16 + 16),
         }
     }
+
+    /// What a message of n bytes is when sealed, to be read.
+    pub fn sealed(size: Size, n: usize) -> Given {
+        let mut random = Random(2);
+        let sealing = books::built(size, &mut random);
+        Given {
+            book: sealing.reading(&mut random).book,
+            coded: random.bytes(n / 16 * 16 + 16),
+        }
+    }
+
+    /// All of it sealed or read.
+    fn pass(
+        &self,
+        rattle: fn(&[u8], &[u8], &[u8], &mut [u8], &mut u64) -> u32,
+        rust: fn(&[u8], &[u8], &[u8], &mut [u8]) -> Result<usize, u32>,
+    ) -> Times {
+        let (n, mut length) = (self.coded.len(), 0);
+        let (mut out, mut other) = (vec![0; n], vec![0; n]);
+        let given = || (hide(self.book.as_slice()), hide(self.coded.as_slice()));
+        let times = Times::of(
+            || {
+                let (book, coded) = given();
+                _ = hide(rattle(book, &IV, coded, &mut out, &mut length));
+            },
+            || {
+                let (book, coded) = given();
+                _ = hide(rust(book, &IV, coded, &mut other));
+            },
+        );
+        assert!(out == other);
+        times
+    }
 }
 
 /// A block through all rounds of a book, into the block.
 fn rattle_rounds(book: &[u8], x: &mut Block) {
     let block = *x;
     hide(bowlinette::run_rounds(hide(book), usize::MAX, &block, x));
-}
-
-/// Coded blocks sealed.
-fn rattle_seal(given: &Given, out: &mut [u8]) {
-    let (book, coded) = (hide(&given.book), hide(&given.coded));
-    let mut length = 0;
-    hide(bowlinette::seal(book, &IV, coded, out, &mut length));
 }
 
 /// A tag by the three calls of a session: begun, a block call for each block but the last, a last call.
@@ -107,28 +134,33 @@ pub fn rounds(size: Size, shape: Shape) -> Times {
 
 /// Sealing beside as many blocks through the rounds.
 pub fn seal_beside_rounds(given: &Given) -> Times {
-    let (mut out, mut x) = (vec![0; given.coded.len()], IV);
+    let (mut out, mut x, mut length) = (vec![0; given.coded.len()], IV, 0);
     let blocks = given.coded.len() / 16;
     Times::of(
-        || rattle_seal(given, &mut out),
+        || {
+            let (book, coded) = (hide(&given.book), hide(&given.coded));
+            _ = hide(bowlinette::seal(book, &IV, coded, &mut out, &mut length));
+        },
         || (0..blocks).for_each(|_| rattle_rounds(&given.book, &mut x)),
     )
 }
 
 /// Sealing.
 pub fn seal(given: &Given, shape: Shape) -> Times {
-    let n = given.coded.len();
     let rust = match shape {
         Shape::Plain => driver::seal,
         Shape::Alike => packed::seal,
     };
-    let (mut out, mut other) = (vec![0; n], vec![0; n]);
-    let times = Times::of(
-        || rattle_seal(given, &mut out),
-        || _ = hide(rust(hide(&given.book), &IV, hide(&given.coded), &mut other)),
-    );
-    assert!(out == other);
-    times
+    given.pass(bowlinette::seal, rust)
+}
+
+/// Reading.
+pub fn read(given: &Given, shape: Shape) -> Times {
+    let rust = match shape {
+        Shape::Plain => reading::read,
+        Shape::Alike => packed_reading::read,
+    };
+    given.pass(bowlinette::read, rust)
 }
 
 /// A tag by session calls.

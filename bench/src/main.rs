@@ -5,6 +5,7 @@ mod archive;
 mod book;
 mod driver;
 mod packed;
+mod packed_reading;
 mod parts;
 mod stack;
 mod timing;
@@ -16,26 +17,40 @@ use timing::{shown, Times};
 /// The messages' lengths: a signature, and the longest.
 const LENGTHS: [usize; 2] = [9_412, 1_048_575];
 
-/// A row of the first table: a time and a ratio for each key size.
-fn row(name: &str, bytes: &str, times: impl Fn(Size) -> Times) {
-    let cell = |size| {
-        let times = times(size);
-        format!("{:>12}{:>7.2}", shown(times.rattle), times.ratio())
-    };
-    println!("{name:<8}{bytes:>10}{}", Size::ALL.map(cell).concat());
+/// A row of the first table: a time and a ratio for each key size. The times are handed back.
+fn row(name: &str, bytes: &str, times: impl Fn(Size) -> Times) -> [Times; 3] {
+    let times = Size::ALL.map(times);
+    let cell = |times: &Times| format!("{:>12}{:>7.2}", shown(times.rattle), times.ratio());
+    let cells: String = times.iter().map(cell).collect();
+    println!("{name:<14}{bytes:>8}{cells}");
+    times
 }
 
-/// The first table.
+/// How long the proved library takes for one row beside another, for each key size.
+fn beside(name: &str, first: &[Times; 3], second: &[Times; 3]) -> String {
+    let ratios = first.iter().zip(second).map(|(a, b)| a.rattle / b.rattle);
+    let cells: String = ratios.map(|ratio| format!("{ratio:>19.2}")).collect();
+    format!("{name:<22}{cells}")
+}
+
+/// The first table, and below it reading beside its counterparts.
 fn product() {
     let key = |size: Size| format!("{:>19}", format!("key of {}", size.key_bytes()));
-    println!("{:<8}{:>10}{}", "", "message", Size::ALL.map(key).concat());
-    row("build", "", book::build);
+    println!("{:<14}{:>8}{}", "", "message", Size::ALL.map(key).concat());
+    let build = row("build", "", book::build);
+    let build_reading = row("build_reading", "", book::build_reading);
+    let mut ratios = vec![beside("build_reading : build", &build_reading, &build)];
     for n in LENGTHS {
         let bytes = n.to_string();
         let coded = |size| driver::Given::new(size, n);
-        row("seal", &bytes, |size| {
+        let sealed = |size| driver::Given::sealed(size, n);
+        let seal = row("seal", &bytes, |size| {
             driver::seal(&coded(size), Shape::Alike)
         });
+        let read = row("read", &bytes, |size| {
+            driver::read(&sealed(size), Shape::Alike)
+        });
+        ratios.push(beside(&format!("read : seal {n:>10}"), &read, &seal));
         row("tag", &bytes, |size| {
             driver::tag(&coded(size), Shape::Alike)
         });
@@ -46,6 +61,8 @@ fn product() {
             archive::check(&archive::Given::new(size, n))
         });
     }
+    println!("The proved library by itself, in this run");
+    println!("{}", ratios.join("\n"));
     let (name, bytes) = stack::most()[0];
     println!("The largest call, {name}, uses {bytes} bytes of stack");
 }

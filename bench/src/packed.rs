@@ -2,14 +2,14 @@
 //! are looked up at a time, the three words side by side, and each round writes into the block it is
 //! lent. As there, nothing is checked inside a round: each index is below 18,432 whatever the bytes are.
 
-use reference::book::{ADD, FOLD, GROUP, ROUND, START};
+use reference::book::{ADD, FOLD, GROUP, ROUND, START, TURN};
 use reference::chain::MIDDLES;
-use reference::driver::{LIMIT, LONGEST};
+use reference::driver::{room, LIMIT};
 use reference::lea::{whole, Block};
 use reference::{refusal, Size};
 
 /// The tables of one round.
-type Tables = [u8; ROUND];
+pub type Tables = [u8; ROUND];
 
 #[inline]
 fn at(t: &Tables, k: usize) -> u8 {
@@ -38,11 +38,11 @@ fn joined(lo: u8, hi: u8) -> u8 {
     lo % 16 + 16 * (hi % 16)
 }
 
-/// Add tables k and k + 1 at the halves of x and y: two half bytes of a sum, and the carry.
+/// Two add tables from a place on at the halves of x and y: two half bytes of a sum, and the carry.
 #[inline]
-fn add_two(t: &Tables, k: usize, c: usize, x: u8, y: u8) -> (u8, usize) {
-    let e = at(t, ADD * k + (256 * c + 16 * low(x) + low(y)));
-    let f = at(t, ADD * (k + 1) + (256 * carry(e) + 16 * high(x) + high(y)));
+pub fn add_two(t: &Tables, place: usize, c: usize, x: u8, y: u8) -> (u8, usize) {
+    let e = at(t, place + (256 * c + 16 * low(x) + low(y)));
+    let f = at(t, place + ADD + (256 * carry(e) + 16 * high(x) + high(y)));
     (joined(e, f), carry(f))
 }
 
@@ -50,16 +50,17 @@ fn add_two(t: &Tables, k: usize, c: usize, x: u8, y: u8) -> (u8, usize) {
 fn sums(t: &Tables, b: &Block) -> [u8; 12] {
     let (mut s, mut c) = ([0; 12], [0; 3]);
     for m in 0..4 {
-        (s[m], c[0]) = add_two(t, 2 * m, c[0], b[m], b[m + 4]);
-        (s[m + 4], c[1]) = add_two(t, 2 * m + 8, c[1], b[m + 4], b[m + 8]);
-        (s[m + 8], c[2]) = add_two(t, 2 * m + 16, c[2], b[m + 8], b[m + 12]);
+        let place = 2 * ADD * m;
+        (s[m], c[0]) = add_two(t, place, c[0], b[m], b[m + 4]);
+        (s[m + 4], c[1]) = add_two(t, place + 8 * ADD, c[1], b[m + 4], b[m + 8]);
+        (s[m + 8], c[2]) = add_two(t, place + 16 * ADD, c[2], b[m + 8], b[m + 12]);
     }
     s
 }
 
-/// Half byte j mod 8 of sum i.
+/// Half byte j mod 8 of word i.
 #[inline]
-fn half(s: &[u8; 12], i: usize, j: usize) -> usize {
+fn half<const N: usize>(s: &[u8; N], i: usize, j: usize) -> usize {
     let x = s[4 * i + j % 8 / 2];
     if j % 2 == 0 {
         low(x)
@@ -68,11 +69,17 @@ fn half(s: &[u8; 12], i: usize, j: usize) -> usize {
     }
 }
 
-/// Byte m of new word i: half byte j from the half bytes j + u and j + v of sum i.
+/// Byte m of word i by the turn tables from a place on: half byte j from the half bytes j + u and j + v.
 #[inline]
-fn turn_two(t: &Tables, s: &[u8; 12], i: usize, m: usize, [u, v]: [usize; 2]) -> u8 {
+pub fn turn_two<const N: usize>(
+    t: &Tables,
+    place: usize,
+    s: &[u8; N],
+    [i, m]: [usize; 2],
+    [u, v]: [usize; 2],
+) -> u8 {
     let entry = |j: usize| {
-        let table = MIDDLES * ADD + 256 * (8 * i + j);
+        let table = place + TURN * (8 * i + j);
         at(t, table + (16 * half(s, i, j + u) + half(s, i, j + v)))
     };
     joined(entry(2 * m), entry(2 * m + 1))
@@ -80,11 +87,12 @@ fn turn_two(t: &Tables, s: &[u8; 12], i: usize, m: usize, [u, v]: [usize; 2]) ->
 
 #[inline]
 fn turns(t: &Tables, s: &[u8; 12], y: &mut Block) {
+    const PLACE: usize = MIDDLES * ADD;
     for m in 0..4 {
         y[m + 12] = y[m];
-        y[m] = turn_two(t, s, 0, m, [6, 5]);
-        y[m + 4] = turn_two(t, s, 1, m, [2, 1]);
-        y[m + 8] = turn_two(t, s, 2, m, [1, 0]);
+        y[m] = turn_two(t, PLACE, s, [0, m], [6, 5]);
+        y[m + 4] = turn_two(t, PLACE, s, [1, m], [2, 1]);
+        y[m + 8] = turn_two(t, PLACE, s, [2, m], [1, 0]);
     }
 }
 
@@ -96,7 +104,7 @@ fn step(t: &Tables, y: &mut Block) {
 
 /// A block folded into another by a group of fold tables.
 #[inline]
-fn fold(group: &[u8; GROUP], x: &Block, y: &Block) -> Block {
+pub fn fold(group: &[u8; GROUP], x: &Block, y: &Block) -> Block {
     std::array::from_fn(|k| {
         let lo = group[2 * FOLD * k + (16 * low(x[k]) + low(y[k]))];
         let hi = group[2 * FOLD * k + FOLD + (16 * high(x[k]) + high(y[k]))];
@@ -146,16 +154,13 @@ pub fn run_rounds(book: &[u8], count: usize, block: &[u8]) -> Result<Block, u32>
 
 /// A coded message sealed from an IV, to the front of out: the length of what was written.
 pub fn seal(book: &[u8], iv: &[u8], coded: &[u8], out: &mut [u8]) -> Result<usize, u32> {
-    let (book, mut x, n) = (Book::new(book)?, *whole(iv)?, coded.len());
-    if n == 0 || n > LONGEST || n % 16 != 0 {
-        return Err(refusal::MESSAGE_LENGTH);
-    }
-    let room = out.get_mut(..n).ok_or(refusal::SHORT_OUTPUT)?;
+    let (book, mut x) = (Book::new(book)?, *whole(iv)?);
+    let room = room(coded.len(), out)?;
     for (text, place) in coded.chunks_exact(16).zip(room.chunks_exact_mut(16)) {
         x = book.pass(0, &x, text.try_into().unwrap());
         place.copy_from_slice(&x);
     }
-    Ok(n)
+    Ok(coded.len())
 }
 
 /// A tag session.

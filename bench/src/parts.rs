@@ -50,13 +50,7 @@ fn cipher(size: Size) {
     );
     row("schedule", key.len(), schedule);
     let mac = Times::of(
-        || {
-            _ = hide(bowlinette::cbc_mac(
-                hide(key),
-                hide(text),
-                hide(&mut out),
-            ))
-        },
+        || _ = hide(bowlinette::cbc_mac(hide(key), hide(text), hide(&mut out))),
         || _ = hide(lea::cbc_mac(hide(key), hide(text))),
     );
     row("CBC-MAC 65536", key.len(), mac);
@@ -121,6 +115,8 @@ pub fn print() {
     heading("message", ["Rattle", "plain Rust"]);
     for (n, given) in &given {
         row("seal, key 16", *n, driver::seal(given, Shape::Plain));
+        let sealed = driver::Given::sealed(Size::Lea128, *n);
+        row("read, key 16", *n, driver::read(&sealed, Shape::Plain));
         row("tag, key 16", *n, driver::tag(given, Shape::Plain));
     }
     println!("Stack, in bytes");

@@ -43,10 +43,11 @@ fn used(mut call: impl FnMut() -> u32 + Send) -> usize {
     })
 }
 
-/// What the operations are given: a book with its key and chain, and the longest message, coded and
-/// sealed.
+/// What the operations are given: a book with its key and chain, what reads the files that it seals, and
+/// the longest message, coded and sealed.
 struct Given {
     built: Built,
+    reading: Built,
     message: Vec<u8>,
     coded: Vec<u8>,
     sealed: Vec<u8>,
@@ -57,23 +58,19 @@ impl Given {
     fn new(size: Size) -> Given {
         let mut random = Random(6);
         let built = books::built(size, &mut random);
+        let reading = built.reading(&mut random);
         let (message, block) = (random.bytes(LENGTHS[1]), random.block());
         let coded = [message.as_slice(), &[1]].concat();
-        let sealed = sealed_text(&built.key, last_set(&built.chain), &block, &coded);
+        let sealed = sealed_text(&built.key, built.last_set(), &block, &coded);
         Given {
             built,
+            reading,
             message,
             coded,
             sealed,
             block,
         }
     }
-}
-
-/// The last set of a chain.
-fn last_set(chain: &[u8]) -> &[u8] {
-    let rounds = (chain.len() - 1_024) / 920;
-    &chain[SET * (rounds + 1)..][..SET]
 }
 
 /// The operations on a key, a chain and a block.
@@ -85,6 +82,8 @@ fn of_keys(g: &Given) -> Vec<(&'static str, usize)> {
     let round_keys = || bowlinette::round_keys(key, 0, &mut row);
     let build = || bowlinette::build(key, chain, &mut book);
     let build_round = || bowlinette::build_round(key, chain, 0, &mut tables);
+    let (reading, mut reading_book) = (&g.reading.chain, g.reading.book.clone());
+    let build_reading = || bowlinette::build_reading(key, reading, &mut reading_book);
     vec![
         ("encipher", used(encipher)),
         (
@@ -101,8 +100,13 @@ fn of_keys(g: &Given) -> Vec<(&'static str, usize)> {
             "check_chain",
             used(|| bowlinette::check_chain(key.len(), chain)),
         ),
+        (
+            "check_reading_chain",
+            used(|| bowlinette::check_reading_chain(key.len(), reading)),
+        ),
         ("build", used(build)),
         ("build_round", used(build_round)),
+        ("build_reading", used(build_reading)),
     ]
 }
 
@@ -113,6 +117,9 @@ fn of_books(g: &Given) -> Vec<(&'static str, usize)> {
     let (mut out, mut length) = (vec![0; g.coded.len()], 0);
     let tables = &book[book.len() - ROUND..];
     let seal = || bowlinette::seal(book, block, &g.coded, &mut out, &mut length);
+    let seal = used(seal);
+    let read = || bowlinette::read(&g.reading.book, block, &g.sealed, &mut out, &mut length);
+    let read = used(read);
     vec![
         (
             "run_round",
@@ -122,7 +129,8 @@ fn of_books(g: &Given) -> Vec<(&'static str, usize)> {
             "run_rounds",
             used(|| bowlinette::run_rounds(book, 99, block, &mut tag)),
         ),
-        ("seal", used(seal)),
+        ("seal", seal),
+        ("read", read),
         ("begin", used(|| session.begin(book))),
         ("block_call", used(|| session.block_call(book, block))),
         (
@@ -134,8 +142,7 @@ fn of_books(g: &Given) -> Vec<(&'static str, usize)> {
 
 /// The operations on a message.
 fn of_messages(g: &Given) -> Vec<(&'static str, usize)> {
-    let Built { key, chain, .. } = &g.built;
-    let (u, set) = (&chain[..SET], last_set(chain));
+    let (key, u, set) = (&g.built.key, g.built.message_set(), g.built.last_set());
     let (mut out, mut length, mut small) = (vec![0; g.coded.len()], 0, 0);
     let mut tag_code = out.clone();
     let sealing = || bowlinette::code_for_sealing(u, &g.message, &mut out, &mut length);

@@ -3,8 +3,9 @@
 #include <stdio.h>
 
 #define SIZE(bits)                                                                            \
-    printf("%d %d %d %d\n", BOWLINETTE_KEY_LENGTH_##bits, BOWLINETTE_ROUNDS_##bits,           \
-           BOWLINETTE_CHAIN_LENGTH_##bits, BOWLINETTE_BOOK_LENGTH_##bits)
+    printf("%d %d %d %d %d\n", BOWLINETTE_KEY_LENGTH_##bits, BOWLINETTE_ROUNDS_##bits,        \
+           BOWLINETTE_CHAIN_LENGTH_##bits, BOWLINETTE_BOOK_LENGTH_##bits,                     \
+           BOWLINETTE_READING_LENGTH_##bits)
 
 static void show(uint32_t number, const uint8_t *bytes)
 {
@@ -72,6 +73,35 @@ static void driver(void)
     printf("%d", bowlinette_begin(&session, book, length) == BOWLINETTE_DONE);
     printf(" %d\n", bowlinette_block_call(&session, book, length, coded, one) == BOWLINETTE_DONE);
     show(bowlinette_last_call(&session, book, length, coded + one, one, BOWLINETTE_KIND_PADDED, out), out);
+}
+
+/* A reading book of identity codings, which deciphers, and two blocks read by it. */
+static void reading(const uint8_t *key, size_t length)
+{
+    static uint8_t chain[BOWLINETTE_CHAIN_LENGTH_256], book[BOWLINETTE_READING_LENGTH_256];
+    uint8_t sealed[2 * BOWLINETTE_BLOCK_LENGTH], out[2 * BOWLINETTE_BLOCK_LENGTH] = {0};
+    const size_t one = BOWLINETTE_BLOCK_LENGTH, rounds = BOWLINETTE_ROUNDS_256;
+    uint64_t written = 0;
+    uint32_t number;
+    size_t i, l;
+
+    for (i = 0; i < BOWLINETTE_CHAIN_ROUND(rounds, 0); i++)
+        chain[i] = (uint8_t)(i % BOWLINETTE_CODING_LENGTH);
+    printf("%d", bowlinette_check_reading_chain(length, chain, sizeof chain) == BOWLINETTE_REFUSED_NO_PERMUTATION);
+    for (l = 0; l < rounds; l++)
+        for (i = 0; i < BOWLINETTE_ROUND_MASKS; i++)
+            chain[BOWLINETTE_CHAIN_ROUND(rounds, l) + i] = (uint8_t)(i % BOWLINETTE_CODING_LENGTH);
+    printf(" %d", bowlinette_check_reading_chain(length, chain, sizeof chain) == BOWLINETTE_DONE);
+    number = bowlinette_build_reading(key, length, chain, sizeof chain, book, sizeof book - 1);
+    printf(" %d", number == BOWLINETTE_REFUSED_ROOM);
+    number = bowlinette_build_reading(key, length, chain, sizeof chain, book, sizeof book);
+    printf(" %d\n", number == BOWLINETTE_DONE);
+    for (i = 0; i < sizeof sealed; i++)
+        sealed[i] = (uint8_t)(13 * i);
+    show(bowlinette_read(book, sizeof book, sealed, one, sealed, 2 * one, out, sizeof out, &written), out + one);
+    printf("%d", written == 2 * one);
+    number = bowlinette_read(book, BOWLINETTE_BOOK_LENGTH_128, sealed, one, sealed, one, out, one, &written);
+    printf(" %d\n", number == BOWLINETTE_REFUSED_BOOK_LENGTH);
 }
 
 /* CMAC of a message of one block, from its definition. */
@@ -151,6 +181,7 @@ int main(void)
     checks();
     codes();
     driver();
+    reading(key, sizeof key);
     archive(key, sizeof key);
     return 0;
 }

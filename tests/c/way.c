@@ -1,7 +1,8 @@
 /*
  * The C library as a bank's programs would use it: for each key size a message goes the whole way from
- * the pad over the driver to the archive, and every function is made to give each of its refusals. After a
- * refusal nothing that was lent may have changed; after a success nothing after what is written.
+ * the pad over the driver to a reader and to the archive, and every function is made to give each of its
+ * refusals. After a refusal nothing that was lent may have changed; after a success nothing after what is
+ * written.
  * Prints how many checks there were and how many of them failed.
  */
 #include "bowlinette.h"
@@ -58,15 +59,19 @@ static int untouched(size_t n)
         CHECK(untouched(0));              \
     } while (0)
 
+#define SIZE(bits)                                                                                   \
+    {                                                                                                \
+        BOWLINETTE_KEY_LENGTH_##bits, BOWLINETTE_ROUNDS_##bits, BOWLINETTE_CHAIN_LENGTH_##bits,      \
+        BOWLINETTE_BOOK_LENGTH_##bits, BOWLINETTE_READING_LENGTH_##bits,                             \
+        BOWLINETTE_READING_FOLDS_##bits                                                              \
+    }
+
 static const struct size {
-    size_t key, rounds, chain, book;
-} sizes[] = {
-    {BOWLINETTE_KEY_LENGTH_128, BOWLINETTE_ROUNDS_128, BOWLINETTE_CHAIN_LENGTH_128, BOWLINETTE_BOOK_LENGTH_128},
-    {BOWLINETTE_KEY_LENGTH_192, BOWLINETTE_ROUNDS_192, BOWLINETTE_CHAIN_LENGTH_192, BOWLINETTE_BOOK_LENGTH_192},
-    {BOWLINETTE_KEY_LENGTH_256, BOWLINETTE_ROUNDS_256, BOWLINETTE_CHAIN_LENGTH_256, BOWLINETTE_BOOK_LENGTH_256},
-};
+    size_t key, rounds, chain, book, reading, folds;
+} sizes[] = {SIZE(128), SIZE(192), SIZE(256)};
 
 static uint8_t key[32], chain[BOWLINETTE_CHAIN_LENGTH_256 + 1], book[BOWLINETTE_BOOK_LENGTH_256 + BLOCK];
+static uint8_t reading_chain[BOWLINETTE_CHAIN_LENGTH_256 + 1], reading[BOWLINETTE_READING_LENGTH_256 + BLOCK];
 static uint8_t message[LONGEST + 1], coded[LONGEST + 1], sealed[LONGEST + 1], tag[BLOCK];
 static const uint8_t iv[BLOCK] = {3, 1, 4, 1, 5, 9, 2, 6, 5, 3, 5, 8, 9, 7, 9, 3};
 static uint64_t coded_length, sealed_length;
@@ -80,30 +85,38 @@ static void coding(uint8_t *place, size_t n)
         place[i] = (uint8_t)((i * (2 * (n % 8) + 1) + n / 8) % 16);
 }
 
-/* The chain for a size: word 3 of each set after set 0 has the codings of word 0 of the set before it. */
-static void make_chain(const struct size *s)
+/* The parts of a chain for a size, others for each n; no word is kept from set to set yet. */
+static void make_parts(uint8_t *place, const struct size *s, size_t n)
 {
-    const size_t sets = s->rounds + 2, round = 24 * BOWLINETTE_CODING_LENGTH + 24;
-    uint8_t *rounds = chain + SET * sets;
+    const size_t sets = s->rounds + 2;
     size_t i, l;
 
     for (i = 0; i < 32 * sets; i++)
-        coding(chain + BOWLINETTE_CODING_LENGTH * i, 5 * i + s->key);
-    for (l = 2; l < sets; l++)
-        memcpy(chain + SET * l + 3 * SET / 4, chain + SET * (l - 1), SET / 4);
+        coding(place + BOWLINETTE_CODING_LENGTH * i, 5 * i + n);
     for (l = 0; l < s->rounds; l++) {
-        uint8_t *masks = rounds + round * l + 24 * BOWLINETTE_CODING_LENGTH;
+        uint8_t *round = place + BOWLINETTE_CHAIN_ROUND(s->rounds, l);
         for (i = 0; i < 24; i++) {
-            coding(rounds + round * l + BOWLINETTE_CODING_LENGTH * i, 7 * i + l);
-            masks[i] = (uint8_t)(i % 8 != 0 && (i + l) % 3 == 0);
+            coding(round + BOWLINETTE_CODING_LENGTH * i, 7 * i + l);
+            round[BOWLINETTE_ROUND_MASKS + i] = (uint8_t)(i % 8 != 0 && (i + l) % 3 == 0);
         }
     }
+}
+
+/* Gives word `to` of each set after set 0 the codings of word `from` of the set before it. */
+static void keep_words(uint8_t *place, const struct size *s, size_t from, size_t to)
+{
+    const size_t word = SET / 4;
+    size_t l;
+
+    for (l = 0; l < s->rounds; l++)
+        memcpy(place + BOWLINETTE_CHAIN_SET(l + 1) + word * to, place + BOWLINETTE_CHAIN_SET(l) + word * from, word);
 }
 
 /* The works: the book, and a round of it by itself. */
 static void works(const struct size *s)
 {
-    make_chain(s);
+    make_parts(chain, s, s->key);
+    keep_words(chain, s, 0, 3);
     CHECK(bowlinette_check_chain(s->key, chain, s->chain) == BOWLINETTE_DONE);
     CHECK(bowlinette_check_set(chain, SET) == BOWLINETTE_DONE);
     memset(book, FILL, sizeof book);
@@ -113,6 +126,42 @@ static void works(const struct size *s)
     CHECK(bowlinette_build_round(key, s->key, chain, s->chain, s->rounds + 1, room.bytes, sizeof room.bytes) == BOWLINETTE_DONE);
     CHECK(untouched(BOWLINETTE_ROUND_LENGTH));
     CHECK(memcmp(room.bytes, book + s->book - BOWLINETTE_ROUND_LENGTH * (s->rounds - 1), BOWLINETTE_ROUND_LENGTH) == 0);
+}
+
+/* The largest entry of the reading book from one place to another. */
+static uint8_t largest(size_t from, size_t to)
+{
+    uint8_t most = 0;
+
+    for (; from < to; from++)
+        if (reading[from] > most)
+            most = reading[from];
+    return most;
+}
+
+/*
+ * The works for the readers: a reading chain that goes on from the last set, and its book. The entries of
+ * subtract tables have five bits, all others four.
+ */
+static void works_for_reading(const struct size *s)
+{
+    size_t l;
+
+    make_parts(reading_chain, s, s->key + 3);
+    memcpy(reading_chain + BOWLINETTE_CHAIN_SET(0), chain + BOWLINETTE_CHAIN_SET(s->rounds), SET);
+    keep_words(reading_chain, s, 3, 0);
+    CHECK(bowlinette_check_reading_chain(s->key, reading_chain, s->chain) == BOWLINETTE_DONE);
+    CHECK(bowlinette_check_reading_chain(s->key, chain, s->chain) == BOWLINETTE_REFUSED_WORD_RULE);
+    CHECK(bowlinette_check_chain(s->key, reading_chain, s->chain) == BOWLINETTE_REFUSED_WORD_RULE);
+    memset(reading, FILL, sizeof reading);
+    CHECK(bowlinette_build_reading(key, s->key, reading_chain, s->chain, reading, sizeof reading) == BOWLINETTE_DONE);
+    CHECK(reading[s->reading] == FILL);
+    for (l = 0; l < s->rounds; l++) {
+        const size_t subtracts = BOWLINETTE_READING_ROUND(l) + BOWLINETTE_READING_SUBTRACTS;
+        CHECK(largest(BOWLINETTE_READING_ROUND(l), subtracts) == 15);
+        CHECK(largest(subtracts, BOWLINETTE_READING_ROUND(l + 1)) == 31);
+    }
+    CHECK(largest(s->folds, s->reading) == 15);
 }
 
 /* A message of n bytes, coded and sealed, and its tag. */
@@ -135,6 +184,17 @@ static void seal(const struct size *s, size_t n)
     CHECK(bowlinette_last_call(&session, book, s->book, coded + i, BLOCK, kind, tag) == BOWLINETTE_DONE);
 }
 
+/* What was sealed is read: the padded message, coded by the message set of the reading chain. */
+static void reader(const struct size *s, size_t n)
+{
+    uint64_t length = 0;
+
+    CHECK(bowlinette_code_for_sealing(reading_chain, SET, message, n, coded, sizeof coded, &coded_length) == BOWLINETTE_DONE);
+    fresh();
+    CHECK(bowlinette_read(reading, s->reading, iv, BLOCK, sealed, sealed_length, room.bytes, sizeof room.bytes, &length) == BOWLINETTE_DONE);
+    CHECK(length == coded_length && memcmp(room.bytes, coded, coded_length) == 0 && untouched(coded_length));
+}
+
 /* What was sealed opens to the message, and its tag is valid; one bit less is not. */
 static void archive(const struct size *s, size_t n)
 {
@@ -153,7 +213,7 @@ static void archive(const struct size *s, size_t n)
     CHECK(bowlinette_is_valid(key, s->key, set, SET, message, n, tag, BLOCK) == 0);
 }
 
-/* The offsets of the header lead to the ends of a chain and a book, and to the last set. */
+/* The offsets of the header lead to the ends of a chain and of both books, and to the last set. */
 static void offsets(const struct size *s)
 {
     const size_t r = s->rounds;
@@ -162,6 +222,8 @@ static void offsets(const struct size *s)
     CHECK(BOWLINETTE_CHAIN_ROUND(r, r) == s->chain);
     CHECK(BOWLINETTE_BOOK_GROUP(3) == BOWLINETTE_BOOK_ROUND(0));
     CHECK(BOWLINETTE_BOOK_ROUND(r) == s->book);
+    CHECK(BOWLINETTE_READING_ROUND(r) == s->folds);
+    CHECK(s->folds + BOWLINETTE_BOOK_GROUP(1) - BOWLINETTE_BOOK_GROUP(0) == s->reading);
 }
 
 /* Every number has a sentence of its own, and a number that is none says so. */
@@ -248,6 +310,53 @@ static void refusals_of_the_works(const struct size *s)
     chain_refused(s, masks + 1, 2, 5);
     REFUSED(9, bowlinette_build(key, s->key, chain, s->chain, room.bytes, s->book - 1));
     REFUSED(9, bowlinette_build_round(key, s->key, chain, s->chain, 0, room.bytes, BOWLINETTE_ROUND_LENGTH - 1));
+}
+
+/* A reading chain with one byte changed, likewise. */
+static void reading_chain_refused(const struct size *s, size_t at, uint8_t with, uint32_t number)
+{
+    const uint8_t was = reading_chain[at];
+
+    reading_chain[at] = with;
+    CHECK(bowlinette_check_reading_chain(s->key, reading_chain, s->chain) == number);
+    REFUSED(number, bowlinette_build_reading(key, s->key, reading_chain, s->chain, room.bytes, s->reading));
+    reading_chain[at] = was;
+}
+
+/* Refusals 1 to 5 and 9 of the works for the readers. */
+static void refusals_of_the_works_for_reading(const struct size *s)
+{
+    const size_t masks = BOWLINETTE_CHAIN_ROUND(s->rounds, 0) + BOWLINETTE_ROUND_MASKS;
+    uint8_t *word = reading_chain + BOWLINETTE_CHAIN_SET(s->rounds);
+    uint8_t was[SET / 4];
+
+    CHECK(bowlinette_check_reading_chain(s->key + 1, reading_chain, s->chain) == 1);
+    CHECK(bowlinette_check_reading_chain(s->key, reading_chain, s->chain - 1) == 2);
+    REFUSED(1, bowlinette_build_reading(key, s->key - 1, reading_chain, s->chain, room.bytes, s->reading));
+    REFUSED(2, bowlinette_build_reading(key, s->key, reading_chain, s->chain + 1, room.bytes, s->reading));
+    reading_chain_refused(s, 2, reading_chain[3], 3);
+    reading_chain_refused(s, masks - 1, 255, 3);
+    memcpy(was, word, sizeof was);
+    coding(word, 127);
+    reading_chain_refused(s, masks, 1, 4);
+    memcpy(word, was, sizeof was);
+    reading_chain_refused(s, masks + 8, 1, 5);
+    reading_chain_refused(s, masks + 23, 2, 5);
+    REFUSED(9, bowlinette_build_reading(key, s->key, reading_chain, s->chain, room.bytes, s->reading - 1));
+}
+
+/* Refusals 6 to 9 of reading. */
+static void refusals_of_reading(const struct size *s)
+{
+    const size_t n = 2 * BLOCK;
+
+    REFUSED(6, bowlinette_read(reading, s->reading + 1, iv, BLOCK, sealed, n, room.bytes, n, &room.length));
+    REFUSED(6, bowlinette_read(book, s->book, iv, BLOCK, sealed, n, room.bytes, n, &room.length));
+    REFUSED(7, bowlinette_read(reading, s->reading, iv, BLOCK - 1, sealed, n, room.bytes, n, &room.length));
+    REFUSED(8, bowlinette_read(reading, s->reading, iv, BLOCK, sealed, 0, room.bytes, n, &room.length));
+    REFUSED(8, bowlinette_read(reading, s->reading, iv, BLOCK, sealed, n - 1, room.bytes, n, &room.length));
+    REFUSED(8, bowlinette_read(reading, s->reading, iv, BLOCK, room.bytes, LONGEST + 1 + BLOCK, sealed, LONGEST + 1, &room.length));
+    REFUSED(9, bowlinette_read(reading, s->reading, iv, BLOCK, sealed, n, room.bytes, n - 1, &room.length));
 }
 
 /* Refusals 2, 3, 8 and 9 of the pad. */
@@ -354,12 +463,16 @@ int main(void)
         const struct size *s = &sizes[i];
         offsets(s);
         works(s);
+        works_for_reading(s);
         blocks(s);
         for (n = 0; n < sizeof lengths / sizeof lengths[0]; n++) {
             seal(s, lengths[n]);
+            reader(s, lengths[n]);
             archive(s, lengths[n]);
         }
         refusals_of_the_works(s);
+        refusals_of_the_works_for_reading(s);
+        refusals_of_reading(s);
         refusals_of_the_pad();
         refusals_of_the_driver(s);
         refusals_of_a_session(s);

@@ -45,6 +45,11 @@ mod c {
             chain: *const u8,
             chain_length: usize,
         ) -> u32;
+        pub fn bowlinette_check_reading_chain(
+            key_length: usize,
+            chain: *const u8,
+            chain_length: usize,
+        ) -> u32;
         pub fn bowlinette_build(
             key: *const u8,
             key_length: usize,
@@ -59,6 +64,14 @@ mod c {
             chain: *const u8,
             chain_length: usize,
             round: usize,
+            out: *mut u8,
+            out_length: usize,
+        ) -> u32;
+        pub fn bowlinette_build_reading(
+            key: *const u8,
+            key_length: usize,
+            chain: *const u8,
+            chain_length: usize,
             out: *mut u8,
             out_length: usize,
         ) -> u32;
@@ -103,6 +116,17 @@ mod c {
             iv_length: usize,
             coded: *const u8,
             coded_length: usize,
+            out: *mut u8,
+            out_length: usize,
+            length: *mut u64,
+        ) -> u32;
+        pub fn bowlinette_read(
+            book: *const u8,
+            book_length: usize,
+            iv: *const u8,
+            iv_length: usize,
+            sealed: *const u8,
+            sealed_length: usize,
             out: *mut u8,
             out_length: usize,
             length: *mut u64,
@@ -276,6 +300,12 @@ pub fn check_chain(key_length: usize, chain: &[u8]) -> u32 {
     unsafe { c::bowlinette_check_chain(key_length, chain.as_ptr(), chain.len()) }
 }
 
+/// Whether a reading chain is one for keys of so many bytes.
+#[inline]
+pub fn check_reading_chain(key_length: usize, chain: &[u8]) -> u32 {
+    unsafe { c::bowlinette_check_reading_chain(key_length, chain.as_ptr(), chain.len()) }
+}
+
 /// The book of a key and a chain, to the front of out.
 #[inline]
 pub fn build(key: &[u8], chain: &[u8], out: &mut [u8]) -> u32 {
@@ -301,6 +331,21 @@ pub fn build_round(key: &[u8], chain: &[u8], round: usize, out: &mut [u8]) -> u3
             chain.as_ptr(),
             chain.len(),
             round,
+            out.as_mut_ptr(),
+            out.len(),
+        )
+    }
+}
+
+/// The reading book of a key and a reading chain, to the front of out.
+#[inline]
+pub fn build_reading(key: &[u8], chain: &[u8], out: &mut [u8]) -> u32 {
+    unsafe {
+        c::bowlinette_build_reading(
+            key.as_ptr(),
+            key.len(),
+            chain.as_ptr(),
+            chain.len(),
             out.as_mut_ptr(),
             out.len(),
         )
@@ -387,6 +432,24 @@ pub fn seal(book: &[u8], iv: &[u8], coded: &[u8], out: &mut [u8], length: &mut u
             iv.len(),
             coded.as_ptr(),
             coded.len(),
+            out.as_mut_ptr(),
+            out.len(),
+            length,
+        )
+    }
+}
+
+/// A sealed message read by a reading book, to the front of out, and the length of that, into length.
+#[inline]
+pub fn read(book: &[u8], iv: &[u8], sealed: &[u8], out: &mut [u8], length: &mut u64) -> u32 {
+    unsafe {
+        c::bowlinette_read(
+            book.as_ptr(),
+            book.len(),
+            iv.as_ptr(),
+            iv.len(),
+            sealed.as_ptr(),
+            sealed.len(),
             out.as_mut_ptr(),
             out.len(),
             length,

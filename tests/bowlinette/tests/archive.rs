@@ -6,6 +6,7 @@ use reference::lea::Block;
 use reference::Size;
 use shared::archive::{check, open, sealed_text};
 use shared::cmac::cmac;
+use shared::pad::padded;
 use shared::{chains, Random};
 
 /// The longest message, and the longest sealed one.
@@ -90,12 +91,6 @@ fn lengths(random: &mut Random) -> Vec<usize> {
     let mut lengths = vec![0, 1, 15, 16, 17, 31, 32, 33, 9_412];
     lengths.extend((0..30).map(|_| random.below(3_000)));
     lengths
-}
-
-/// A message with its PKCS#7 padding.
-fn padded(message: &[u8]) -> Vec<u8> {
-    let added = 16 - message.len() % 16;
-    [message, &vec![added as u8; added]].concat()
 }
 
 /// A sealed file is CBC of the padded message, coded by set r, and opens to the message.

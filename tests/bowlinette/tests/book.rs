@@ -1,32 +1,55 @@
-//! Whole books and single rounds of them, on both versions: every byte, each refusal, and what
+//! Books, single rounds of them and reading books, on both versions: every byte, each refusal, and what
 //! stays as it was.
 
 use reference::book::{ADD, FOLD, GROUP, ROUND, START};
 use reference::chain::{self, CODING, MIDDLES, SET, WORD};
 use reference::{lea, Size};
-use shared::book::{build, build_round};
-use shared::{chains, Random, FILL};
+use shared::book::{build, build_reading, build_round};
+use shared::{chains, places, Random, FILL};
+
+/// What is built.
+#[derive(Clone, Copy, Debug, PartialEq)]
+enum Kind {
+    Book,
+    Reading,
+}
 
 /// What a call is given beside its buffer.
 #[derive(Clone)]
 struct Case {
+    kind: Kind,
     size: Size,
     key: Vec<u8>,
     chain: Vec<u8>,
 }
 
 impl Case {
-    fn new(size: Size, random: &mut Random) -> Case {
+    fn new(kind: Kind, size: Size, random: &mut Random) -> Case {
         Case {
+            kind,
             size,
             key: random.bytes(size.key_bytes()),
-            chain: chains::valid(size, random),
+            chain: match kind {
+                Kind::Book => chains::valid(size, random),
+                Kind::Reading => chains::reading(size, None, random),
+            },
+        }
+    }
+
+    /// How many bytes the book has.
+    fn bytes(&self) -> usize {
+        match self.kind {
+            Kind::Book => self.size.book_bytes(),
+            Kind::Reading => self.size.reading_bytes(),
         }
     }
 
     /// The whole book.
     fn book(&self, length: usize) -> (u32, Vec<u8>) {
-        build(&self.key, &self.chain, length)
+        match self.kind {
+            Kind::Book => build(&self.key, &self.chain, length),
+            Kind::Reading => build_reading(&self.key, &self.chain, length),
+        }
     }
 
     /// One round of it.
@@ -35,29 +58,36 @@ impl Case {
     }
 }
 
-/// Runs a check on a few random keys and chains of each size.
-fn on_cases(seed: u64, count: usize, check: impl Fn(Size, Case)) {
+/// Runs a check on a few random keys and chains of each size, for books or for reading books.
+fn on_kind(kind: Kind, seed: u64, count: usize, check: impl Fn(Size, Case)) {
     let mut random = Random(seed);
     for size in Size::ALL {
         for _ in 0..count {
-            check(size, Case::new(size, &mut random));
+            check(size, Case::new(kind, size, &mut random));
         }
+    }
+}
+
+/// The same for both.
+fn on_cases(seed: u64, count: usize, check: impl Fn(Size, Case)) {
+    for kind in [Kind::Book, Kind::Reading] {
+        on_kind(kind, seed, count, &check);
     }
 }
 
 #[test]
 fn random_books() {
     on_cases(40, 12, |size, case| {
-        assert_eq!(case.book(size.book_bytes()).0, 0);
+        assert_eq!(case.book(case.bytes()).0, 0, "{size:?}, {:?}", case.kind);
     });
 }
 
 /// A round by itself is that part of the book, its number taken mod the rounds.
 #[test]
 fn rounds_of_a_book() {
-    on_cases(41, 1, |size, case| {
+    on_kind(Kind::Book, 41, 1, |size, case| {
         let rounds = size.rounds();
-        let (_, book) = case.book(size.book_bytes());
+        let (_, book) = case.book(case.bytes());
         for number in (0..3 * rounds).chain([1 << 32, usize::MAX]) {
             let (told, tables) = case.round(number, ROUND);
             let at = START + 3 * GROUP + ROUND * (number % rounds);
@@ -67,32 +97,26 @@ fn rounds_of_a_book() {
     });
 }
 
-#[test]
-fn buffers_of_other_lengths() {
-    on_cases(42, 1, |size, case| {
-        let whole = size.book_bytes();
-        for length in [0, 1, ROUND, whole - ROUND, whole - 1] {
-            assert_eq!(case.book(length).0, 9, "{size:?}, {length} bytes");
-        }
-        for more in [0, 1, 16, ROUND] {
-            let (number, out) = case.book(whole + more);
-            assert_eq!(number, 0);
-            assert!(out[whole..].iter().all(|&x| x == FILL), "past the book");
-        }
-        for length in [0, 1, ADD, ROUND - 1] {
-            assert_eq!(case.round(5, length).0, 9, "a round, {length} bytes");
-        }
-        for more in [0, 1, 16, whole] {
-            let (number, out) = case.round(5, ROUND + more);
-            assert_eq!(number, 0);
-            assert!(out[ROUND..].iter().all(|&x| x == FILL), "past the round");
-        }
-    });
+/// Buffers for so many bytes that are shorter, or longer: then the bytes after them stay.
+fn buffers(due: usize, build: impl Fn(usize) -> (u32, Vec<u8>)) {
+    for length in [0, 1, due / 2, due - 1] {
+        assert_eq!(build(length).0, 9, "{length} bytes for {due}");
+    }
+    for more in [0, 1, 16, ROUND] {
+        let (number, out) = build(due + more);
+        assert_eq!(number, 0, "{due} bytes and {more}");
+        assert!(out[due..].iter().all(|&x| x == FILL), "past {due} bytes");
+    }
 }
 
-/// The first, a middle and the last of so many.
-fn places(count: usize) -> [usize; 3] {
-    [0, count / 2, count - 1]
+#[test]
+fn buffers_of_other_lengths() {
+    on_cases(42, 1, |_, case| {
+        buffers(case.bytes(), |length| case.book(length));
+        if case.kind == Kind::Book {
+            buffers(ROUND, |length| case.round(5, length));
+        }
+    });
 }
 
 /// The numbers that building the book, and a round of it, give after a change, in buffers that are
@@ -100,10 +124,13 @@ fn places(count: usize) -> [usize; 3] {
 fn refused(case: &Case, change: impl Fn(&mut Case)) -> u32 {
     let mut other = case.clone();
     change(&mut other);
-    let number = other.book(case.size.book_bytes()).0;
-    assert_eq!(other.round(0, ROUND).0, number);
+    let number = other.book(case.bytes()).0;
     let empty = if number == 0 { 9 } else { number };
-    assert_eq!([other.book(0).0, other.round(7, 0).0], [empty; 2]);
+    assert_eq!(other.book(0).0, empty, "{:?}", case.kind);
+    if case.kind == Kind::Book {
+        let rounds = [other.round(0, ROUND).0, other.round(7, 0).0];
+        assert_eq!(rounds, [number, empty], "a round");
+    }
     number
 }
 
@@ -146,9 +173,33 @@ fn chains_that_are_not_valid() {
                 let mask = |c: &mut Case| c.chain[middles + CODING * MIDDLES + k] = 2;
                 assert_eq!(refused(&case, mask), 5, "mask {k} of round {l}");
             }
-            let at = SET * (l + 2) + 3 * WORD;
-            let word = |c: &mut Case| c.chain.swap(at, at + 1);
-            assert_eq!(refused(&case, word), 4, "word 3 after round {l}");
+            let word = match case.kind {
+                Kind::Book => 3,
+                Kind::Reading => 0,
+            };
+            let at = SET * (l + 2) + WORD * word;
+            let swap = |c: &mut Case| c.chain.swap(at, at + 1);
+            assert_eq!(refused(&case, swap), 4, "word {word} after round {l}");
+        }
+    });
+}
+
+/// Every choice among the mistakes 1 to 5. Word 0 of set 1 is part of both word rules.
+#[test]
+fn the_lowest_number_first() {
+    let mistakes: [fn(&mut Case); 5] = [
+        |c| c.key.push(0),
+        |c| c.chain.push(0),
+        |c| c.chain[0] = 16,
+        |c| c.chain.swap(2 * SET, 2 * SET + 1),
+        |c| c.chain[SET * (c.size.rounds() + 2) + CODING * MIDDLES] = 1,
+    ];
+    on_cases(46, 1, |_, case| {
+        for choice in 0..32 {
+            let made = |k: &usize| choice >> k & 1 == 1;
+            let change = |c: &mut Case| (0..5).filter(made).for_each(|k| mistakes[k](c));
+            let due = (0..5).find(made).map_or(0, |k| k as u32 + 1);
+            assert_eq!(refused(&case, change), due, "mistakes {choice:05b}");
         }
     });
 }
@@ -158,7 +209,7 @@ fn chains_that_are_not_valid() {
 #[test]
 fn table_examples() {
     for size in Size::ALL {
-        let mut case = Case::new(size, &mut Random(45));
+        let mut case = Case::new(Kind::Book, size, &mut Random(45));
         case.chain = chain::random(size, |bound| bound - 1);
         for l in 0..size.rounds() {
             let masks = SET * (size.rounds() + 2) + chain::ROUND * l + CODING * MIDDLES;

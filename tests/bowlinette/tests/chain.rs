@@ -1,29 +1,55 @@
-//! The checks of lone sets and of chains, on both versions: valid ones of each size, and each
-//! refusal at first, middle and last places, alone and beside others.
+//! The checks of lone sets, of chains and of reading chains, on both versions: valid ones of each size,
+//! and each refusal at first, middle and last places, alone and beside others.
 
 use reference::chain::{self, CODING, MIDDLES, ROUND, SET, WORD};
 use reference::Size;
-use shared::book::{check_chain as told, check_set as told_set};
-use shared::{chains, Random};
+use shared::book::{check_chain, check_reading_chain, check_set as told_set};
+use shared::{chains, places, Random};
 
-/// Runs a check on a valid chain of each size.
-fn on_chains(seed: u64, check: impl Fn(Size, Vec<u8>)) {
-    let mut random = Random(seed);
-    for size in Size::ALL {
-        check(size, chains::valid(size, &mut random));
+/// A kind of chain: a random valid one, what is said of one for keys of so many bytes, and the word rule,
+/// that word `old` of a set is word `new` of the next.
+struct Kind {
+    name: &'static str,
+    valid: fn(Size, &mut Random) -> Vec<u8>,
+    told: fn(usize, &[u8]) -> u32,
+    old: usize,
+    new: usize,
+}
+
+const KINDS: [Kind; 2] = [
+    Kind {
+        name: "chain",
+        valid: chains::valid,
+        told: check_chain,
+        old: 0,
+        new: 3,
+    },
+    Kind {
+        name: "reading chain",
+        valid: |size, random| chains::reading(size, None, random),
+        told: check_reading_chain,
+        old: 3,
+        new: 0,
+    },
+];
+
+impl Kind {
+    /// The number for a chain of this size after a change.
+    fn changed(&self, size: Size, chain: &[u8], change: impl FnOnce(&mut [u8])) -> u32 {
+        let mut other = chain.to_vec();
+        change(&mut other);
+        (self.told)(size.key_bytes(), &other)
     }
 }
 
-/// The number for a chain of this size after a change.
-fn changed(size: Size, chain: &[u8], change: impl FnOnce(&mut [u8])) -> u32 {
-    let mut other = chain.to_vec();
-    change(&mut other);
-    told(size.key_bytes(), &other)
-}
-
-/// The first, a middle and the last of so many.
-fn places(count: usize) -> [usize; 3] {
-    [0, count / 2, count - 1]
+/// Runs a check on a valid chain of each kind and size.
+fn on_chains(seed: u64, check: impl Fn(&Kind, Size, Vec<u8>)) {
+    let mut random = Random(seed);
+    for kind in &KINDS {
+        for size in Size::ALL {
+            check(kind, size, (kind.valid)(size, &mut random));
+        }
+    }
 }
 
 /// Where set l, the middle codings and the masks of round l begin.
@@ -42,31 +68,38 @@ fn masks_at(size: Size, l: usize) -> usize {
 #[test]
 fn valid_chains() {
     for seed in 0..20 {
-        on_chains(seed, |size, chain| {
+        on_chains(seed, |kind, size, chain| {
             for other in Size::ALL {
                 let number = if other == size { 0 } else { 2 };
-                assert_eq!(told(other.key_bytes(), &chain), number);
+                let told = (kind.told)(other.key_bytes(), &chain);
+                assert_eq!(told, number, "{} for {other:?}", kind.name);
+            }
+            for other in &KINDS {
+                let number = if other.name == kind.name { 0 } else { 4 };
+                let told = (other.told)(size.key_bytes(), &chain);
+                assert_eq!(told, number, "{} as {}", kind.name, other.name);
             }
         });
     }
 }
 
-/// Identity codings, the masks all 0 or, where they may be, all 1.
+/// Identity codings, the masks all 0 or, where they may be, all 1: valid of both kinds.
 #[test]
 fn identity_chains() {
     for size in Size::ALL {
+        let told = |chain: &[u8]| KINDS.map(|kind| (kind.told)(size.key_bytes(), chain));
         let mut chain = chain::random(size, |bound| bound - 1);
-        assert_eq!(told(size.key_bytes(), &chain), 0);
+        assert_eq!(told(&chain), [0, 0]);
         for l in 0..size.rounds() {
             chain[masks_at(size, l)..][..MIDDLES].fill(0);
         }
-        assert_eq!(told(size.key_bytes(), &chain), 0);
+        assert_eq!(told(&chain), [0, 0]);
     }
 }
 
 #[test]
 fn key_lengths() {
-    on_chains(30, |size, chain| {
+    on_chains(30, |kind, size, chain| {
         for key in (0..=40).chain([272, 280, 288, 65_552, usize::MAX]) {
             let known = Size::of_key(key);
             let number = match known {
@@ -74,22 +107,23 @@ fn key_lengths() {
                 Some(_) => 2,
                 None => 1,
             };
-            assert_eq!(told(key, &chain), number);
-            assert_eq!(told(key, &[]), if known.is_some() { 2 } else { 1 });
+            assert_eq!((kind.told)(key, &chain), number);
+            let empty = if known.is_some() { 2 } else { 1 };
+            assert_eq!((kind.told)(key, &[]), empty);
         }
     });
 }
 
 #[test]
 fn chain_lengths() {
-    on_chains(31, |size, mut chain| {
+    on_chains(31, |kind, size, mut chain| {
         let (key, right) = (size.key_bytes(), chain.len());
         for length in [0, 1, SET, right / 2, right - CODING, right - 1] {
-            assert_eq!(told(key, &chain[..length]), 2);
+            assert_eq!((kind.told)(key, &chain[..length]), 2);
         }
         for longer in [1, 2, CODING, 65_536] {
             chain.resize(right + longer, 0);
-            assert_eq!(told(key, &chain), 2);
+            assert_eq!((kind.told)(key, &chain), 2);
         }
     });
 }
@@ -105,7 +139,7 @@ fn spoilt(coding: &mut [u8], place: usize, way: usize) {
 
 #[test]
 fn codings() {
-    on_chains(32, |size, chain| {
+    on_chains(32, |kind, size, chain| {
         let sets = places(size.rounds() + 2)
             .into_iter()
             .flat_map(|s| places(32).map(|k| SET * s + CODING * k));
@@ -116,25 +150,30 @@ fn codings() {
             for place in places(CODING) {
                 for way in [0, 1, 2, 9, 16] {
                     let spoil = |c: &mut [u8]| spoilt(&mut c[at..][..CODING], place, way);
-                    assert_eq!(changed(size, &chain, spoil), if way == 16 { 0 } else { 3 });
+                    let number = kind.changed(size, &chain, spoil);
+                    assert_eq!(number, if way == 16 { 0 } else { 3 });
                 }
             }
         }
     });
 }
 
-/// Two images of a coding exchanged: it stays a permutation, and only the word 3 rule can break.
+/// Two images of a coding exchanged: it stays a permutation, and only the word rule can break.
 #[test]
 fn the_word_rule() {
-    on_chains(33, |size, chain| {
-        let swap = |at: usize| changed(size, &chain, |c| c.swap(at, at + 1));
+    on_chains(33, |kind, size, chain| {
+        let swap = |at: usize| kind.changed(size, &chain, |c| c.swap(at, at + 1));
         let last = size.rounds();
         for place in [(0, 0), (0, 14), (4, 7), (7, 0), (7, 14)].map(|(j, v)| CODING * j + v) {
-            for l in 0..=last {
-                let word = |w: usize| swap(set_at(l) + WORD * w + place);
-                assert_eq!(word(0), if l < last { 4 } else { 0 }, "word 0 of set {l}");
-                assert_eq!([word(1), word(2)], [0, 0], "words 1 and 2 of set {l}");
-                assert_eq!(word(3), if l > 0 { 4 } else { 0 }, "word 3 of set {l}");
+            for (l, w) in (0..=last).flat_map(|l| [(l, 0), (l, 1), (l, 2), (l, 3)]) {
+                let kept = w == kind.old && l < last || w == kind.new && l > 0;
+                let number = swap(set_at(l) + WORD * w + place);
+                let name = kind.name;
+                assert_eq!(
+                    number,
+                    if kept { 4 } else { 0 },
+                    "{name}, word {w} of set {l}"
+                );
             }
             assert_eq!(swap(place), 0, "the message set");
         }
@@ -146,12 +185,13 @@ fn the_word_rule() {
 
 #[test]
 fn masks() {
-    on_chains(34, |size, chain| {
+    on_chains(34, |kind, size, chain| {
         for l in places(size.rounds()) {
             for place in 0..MIDDLES {
                 for mask in [0, 1, 2, 16, 255] {
                     let good = mask == 0 || mask == 1 && place % 8 != 0;
-                    let number = changed(size, &chain, |c| c[masks_at(size, l) + place] = mask);
+                    let at = masks_at(size, l) + place;
+                    let number = kind.changed(size, &chain, |c| c[at] = mask);
                     assert_eq!(
                         number,
                         if good { 0 } else { 5 },
@@ -166,7 +206,7 @@ fn masks() {
 /// Every choice among the mistakes 1 to 5, each at a first and at a last place.
 #[test]
 fn the_lowest_number_first() {
-    on_chains(35, |size, chain| {
+    on_chains(35, |kind, size, chain| {
         let last = size.rounds() - 1;
         for (choice, late) in (0..32).flat_map(|n| [(n, false), (n, true)]) {
             let made = |number: u32| choice >> (number - 1) & 1 == 1;
@@ -176,7 +216,7 @@ fn the_lowest_number_first() {
                 other[masks_at(size, l) + if late { MIDDLES - 1 } else { 0 }] = 2;
             }
             if made(4) {
-                let at = set_at(l + 1) + 3 * WORD;
+                let at = set_at(l + 1) + kind.new * WORD;
                 other.swap(at, at + 1);
             }
             if made(3) {
@@ -191,7 +231,7 @@ fn the_lowest_number_first() {
             }
             let due = (1..=5).find(|&number| made(number)).unwrap_or(0);
             assert_eq!(
-                told(key, &other),
+                (kind.told)(key, &other),
                 due,
                 "mistakes {choice:05b}, late: {late}"
             );
@@ -202,22 +242,23 @@ fn the_lowest_number_first() {
 /// Every byte of a chain, changed at random to any other: both versions say the same.
 #[test]
 fn every_byte() {
-    let mut random = Random(36);
-    let size = Size::Lea128;
-    let chain = chains::valid(size, &mut random);
-    let mut numbers = [0; 6];
-    for at in 0..chain.len() {
-        let step = random.bytes(1)[0].max(1);
-        let number = changed(size, &chain, |c| c[at] = c[at].wrapping_add(step));
-        numbers[number as usize] += 1;
+    let (mut random, size) = (Random(36), Size::Lea128);
+    for kind in &KINDS {
+        let chain = (kind.valid)(size, &mut random);
+        let mut numbers = [0; 6];
+        for at in 0..chain.len() {
+            let step = random.bytes(1)[0].max(1);
+            let number = kind.changed(size, &chain, |c| c[at] = c[at].wrapping_add(step));
+            numbers[number as usize] += 1;
+        }
+        assert_eq!(numbers[1] + numbers[2] + numbers[4], 0, "{}", kind.name);
+        assert!(numbers[3] >= SET * (size.rounds() + 2) && numbers[5] > 0);
     }
-    assert_eq!(numbers[1] + numbers[2] + numbers[4], 0);
-    assert!(numbers[3] >= SET * (size.rounds() + 2) && numbers[5] > 0);
 }
 
 #[test]
 fn lone_sets() {
-    on_chains(37, |size, chain| {
+    on_chains(37, |_, size, chain| {
         for l in places(size.rounds() + 2) {
             let set = &chain[SET * l..][..SET];
             assert_eq!(told_set(set), 0);

@@ -1,12 +1,12 @@
-//! Rounds and sealing from books on both versions: books of random keys and chains, and random bytes
-//! of a book's length. What is written, each refusal, and what stays as it was.
+//! Rounds, sealing and reading from books on both versions: books of random keys and chains, and random
+//! bytes of a book's length. What is written, each refusal, and what stays as it was.
 
 use reference::book::{ADD, GROUP, ROUND, START};
 use reference::chain::{self, MIDDLES};
 use reference::driver::LONGEST;
 use reference::lea::{self, Block};
 use reference::Size;
-use shared::driver::{round, rounds, seal};
+use shared::driver::{read, round, rounds, seal};
 use shared::{books, Random, FILL};
 
 /// The tables of round l of a book.
@@ -84,24 +84,20 @@ fn the_example_of_two_rounds() {
     assert_eq!(rounds(&book, 24, &block), Ok(last));
 }
 
-/// A book with the bits that a reader does not use changed.
-fn stirred(book: &[u8], random: &mut Random) -> Vec<u8> {
-    let noise = random.bytes(book.len());
-    let unused = |at: usize| match at.checked_sub(START) {
+/// The bits that a reader does not use of the byte at a place of a book.
+fn unused(at: usize) -> u8 {
+    match at.checked_sub(START) {
         None => 0,
         Some(k) if k >= 3 * GROUP && (k - 3 * GROUP) % ROUND < MIDDLES * ADD => 0xe0,
         Some(_) => 0xf0,
-    };
-    let changed = |(at, x): (usize, &u8)| x ^ noise[at] & unused(at);
-    book.iter().enumerate().map(changed).collect()
+    }
 }
 
 #[test]
 fn bits_that_a_reader_does_not_use() {
     let mut random = Random(73);
     for (size, book) in books::any(&mut random) {
-        let other = stirred(&book, &mut random);
-        assert!(other != book);
+        let other = books::stirred(&book, unused, &mut random);
         let (iv, coded) = (random.bytes(16), random.bytes(512));
         for block in coded.chunks_exact(16) {
             let told = rounds(&book, usize::MAX, block);
@@ -164,60 +160,91 @@ fn lengths_of_tables_and_blocks() {
     }
 }
 
+/// Sealing or reading, which take whole blocks from an IV through a book of one of three lengths.
+struct Pass {
+    name: &'static str,
+    books: fn(&mut Random) -> Vec<(Size, Vec<u8>)>,
+    lengths: [usize; 3],
+    run: fn(&[u8], &[u8], &[u8], usize) -> (u32, Vec<u8>),
+}
+
+const PASSES: [Pass; 2] = [
+    Pass {
+        name: "seal",
+        books: books::any,
+        lengths: [466_960, 540_688, 614_416],
+        run: seal,
+    },
+    Pass {
+        name: "read",
+        books: books::any_reading,
+        lengths: [450_560, 524_288, 598_016],
+        run: read,
+    },
+];
+
+/// So many blocks in buffers of several lengths.
+fn passed(Pass { name, run, .. }: &Pass, book: &[u8], blocks: usize, random: &mut Random) {
+    let (n, iv) = (16 * blocks, random.bytes(16));
+    let text = random.bytes(n);
+    let lent = (iv.clone(), text.clone());
+    let (number, exact) = run(book, &iv, &text, n);
+    assert_eq!(number, 0, "{name}, {n} bytes");
+    for more in [1, 15, 16, 100] {
+        let (number, out) = run(book, &iv, &text, n + more);
+        assert!(number == 0 && out[..n] == exact, "{name}, {n} bytes");
+        assert!(out[n..].iter().all(|&x| x == FILL), "past the last block");
+    }
+    for room in [n - 1, n - 16, 0] {
+        let number = run(book, &iv, &text, room).0;
+        assert_eq!(number, 9, "{name}, {room} for {n} bytes");
+    }
+    assert!((iv, text) == lent, "{name}, IV and message");
+}
+
 #[test]
-fn sealed_messages() {
+fn sealed_and_read_messages() {
     let mut random = Random(76);
-    for (size, book) in books::any(&mut random) {
-        let before = book.clone();
-        let some = (0..6)
-            .map(|_| 1 + usize::from(random.bytes(1)[0]))
-            .collect::<Vec<_>>();
-        for blocks in (1..=20).chain(some) {
-            let (n, iv) = (16 * blocks, random.bytes(16));
-            let coded = random.bytes(n);
-            let lent = (iv.clone(), coded.clone());
-            let (number, exact) = seal(&book, &iv, &coded, n);
-            assert_eq!(number, 0, "{size:?}, {n} bytes");
-            for more in [1, 15, 16, 100] {
-                let (number, out) = seal(&book, &iv, &coded, n + more);
-                assert!(number == 0 && out[..n] == exact, "{size:?}, {n} bytes");
-                assert!(out[n..].iter().all(|&x| x == FILL), "past the last block");
+    for pass in &PASSES {
+        for (size, book) in (pass.books)(&mut random) {
+            let before = book.clone();
+            let some: Vec<usize> = (0..6).map(|_| 1 + random.below(256)).collect();
+            for blocks in (1..=20).chain(some).chain([589]) {
+                passed(pass, &book, blocks, &mut random);
             }
-            for room in [n - 1, n - 16, 0] {
-                assert_eq!(seal(&book, &iv, &coded, room).0, 9, "{room} for {n} bytes");
-            }
-            assert!((iv, coded) == lent, "{size:?}, IV and message");
+            assert!(book == before, "{size:?}, {}, the book", pass.name);
         }
-        assert!(book == before, "{size:?}, the book");
     }
 }
 
 #[test]
 fn the_longest_messages() {
     let mut random = Random(77);
-    let (coded, iv) = (random.bytes(LONGEST + 16), random.bytes(16));
-    for (size, book) in books::any(&mut random) {
-        for (n, room, due) in [
-            (LONGEST, LONGEST, 0),
-            (LONGEST, LONGEST + 5, 0),
-            (LONGEST, LONGEST - 1, 9),
-            (LONGEST + 16, LONGEST + 16, 8),
-            (LONGEST + 1, LONGEST + 16, 8),
-            (LONGEST - 1, LONGEST, 8),
-        ] {
-            assert_eq!(seal(&book, &iv, &coded[..n], room).0, due, "{size:?}, {n}");
+    let (text, iv) = (random.bytes(LONGEST + 16), random.bytes(16));
+    for pass in &PASSES {
+        for (size, book) in (pass.books)(&mut random) {
+            for (n, room, due) in [
+                (LONGEST, LONGEST, 0),
+                (LONGEST, LONGEST + 5, 0),
+                (LONGEST, LONGEST - 1, 9),
+                (LONGEST + 16, LONGEST + 16, 8),
+                (LONGEST + 1, LONGEST + 16, 8),
+                (LONGEST - 1, LONGEST, 8),
+            ] {
+                let number = (pass.run)(&book, &iv, &text[..n], room).0;
+                assert_eq!(number, due, "{size:?}, {}, {n}", pass.name);
+            }
         }
     }
 }
 
 /// All reasons at once and every part of them: the lowest number.
-#[test]
-fn refusals_of_sealing() {
-    let mut random = Random(78);
+fn refused(pass: &Pass, random: &mut Random) {
     let (bytes, iv) = (random.bytes(700_000), random.bytes(32));
     let text = random.bytes(LONGEST + 16);
-    let right = Size::ALL.map(Size::book_bytes);
-    for n in right.into_iter().chain([0, right[0] - 1, right[1] + 1]) {
+    let others = PASSES.iter().flat_map(|other| other.lengths);
+    let near = pass.lengths.into_iter().flat_map(|n| [n - 1, n + 1]);
+    for n in others.chain(near).chain([0]) {
         for v in [16, 0, 15, 17, 32] {
             for m in [
                 16,
@@ -234,18 +261,28 @@ fn refusals_of_sealing() {
                 for room in [m, 0, m.saturating_sub(1), m + 1] {
                     let length = m == 0 || m > 1_048_576 || m % 16 != 0;
                     let reasons = [
-                        (6, !has_book_length(n)),
+                        (6, !pass.lengths.contains(&n)),
                         (7, v != 16),
                         (8, length),
                         (9, room < m),
                     ];
-                    let (number, _) = seal(&bytes[..n], &iv[..v], &text[..m], room);
-                    let given = (n, v, m, room);
+                    let (number, _) = (pass.run)(&bytes[..n], &iv[..v], &text[..m], room);
+                    let given = (pass.name, n, v, m, room);
                     assert_eq!(number, first(&reasons), "{given:?}");
                 }
             }
         }
     }
+}
+
+#[test]
+fn refusals_of_sealing() {
+    refused(&PASSES[0], &mut Random(78));
+}
+
+#[test]
+fn refusals_of_reading() {
+    refused(&PASSES[1], &mut Random(80));
 }
 
 /// A message coded for sealing and sealed, decoded by the last set: CBC, and under it the message

@@ -26,8 +26,9 @@ fn due() -> Vec<String> {
     let block: Vec<u8> = (0..16).map(|i| 11 * i).collect();
     let mut lines: Vec<String> = Vec::new();
     for s in Size::ALL {
-        let (chain, book) = (s.chain_bytes(), s.book_bytes());
-        lines.push(format!("{} {} {chain} {book}", s.key_bytes(), s.rounds()));
+        let (key, rounds, chain) = (s.key_bytes(), s.rounds(), s.chain_bytes());
+        let (book, reading) = (s.book_bytes(), s.reading_bytes());
+        lines.push(format!("{key} {rounds} {chain} {book} {reading}"));
     }
     lines.push(line(lea::encipher(&key, &block)));
     lines.push(line(lea::decipher(&key, &block)));
@@ -42,10 +43,16 @@ fn due() -> Vec<String> {
     lines.push(line(Ok(*b"in ink\x80\0\0\0\0\0\0\0\0\0")));
     lines.push("1 1 1 1 1 1".into());
     lines.extend(due_driver());
+    lines.extend(due_reading(&key));
     lines.push(line(Ok(*b"in ink\0\0\0\0\0\0\0\0\0\0")));
     lines.push("1 1 1".into());
     lines.push("1 1 1 1 1".into());
     lines
+}
+
+/// Two blocks.
+fn two_blocks() -> Vec<u8> {
+    (0..32).map(|i| (13 * i) as u8).collect()
 }
 
 /// Those of the driver.
@@ -54,7 +61,7 @@ fn due_driver() -> Vec<String> {
     let book: Vec<u8> = (0..size.book_bytes())
         .map(|i| (i % 251 * 77) as u8)
         .collect();
-    let coded: Vec<u8> = (0..32).map(|i| (13 * i) as u8).collect();
+    let coded = two_blocks();
     let (first, last) = coded.split_at(16);
     let mut sealed = [0; 32];
     let written = driver::seal(&book, first, &coded, &mut sealed);
@@ -68,6 +75,15 @@ fn due_driver() -> Vec<String> {
         "1 1".into(),
         line(session.last_call(&book, last, 1)),
     ]
+}
+
+/// Those of reading: a block deciphered and folded with the one before.
+fn due_reading(key: &[u8]) -> Vec<String> {
+    let sealed = two_blocks();
+    let (before, own) = sealed.split_at(16);
+    let plain = lea::decipher(key, own).unwrap();
+    let text = std::array::from_fn(|k| plain[k] ^ before[k]);
+    vec!["1 1 1 1".into(), line(Ok(text)), "1 1".into()]
 }
 
 #[test]

@@ -1,7 +1,8 @@
 //! Checking sets and chains, and building books and rounds of them, on both versions.
 
 use crate::lent::{answer, both};
-use reference::{book, chain};
+use reference::chain::{self, Chain};
+use reference::{book, reading};
 
 /// What is said of a lone set.
 pub fn check_set(set: &[u8]) -> u32 {
@@ -11,26 +12,61 @@ pub fn check_set(set: &[u8]) -> u32 {
     number
 }
 
-/// What is said of a chain for keys of so many bytes.
-pub fn check_chain(key: usize, chain: &[u8]) -> u32 {
-    let number = bowlinette::check_chain(key, chain);
-    let want = chain::check(key, chain).err().unwrap_or(0);
-    assert_eq!(number, want, "key of {key}, chain of {}", chain.len());
+/// What both versions of a check say of a chain.
+fn checked<'a>(
+    name: &str,
+    (key, chain): (usize, &'a [u8]),
+    proved: fn(usize, &[u8]) -> u32,
+    reference: fn(usize, &'a [u8]) -> Result<Chain<'a>, u32>,
+) -> u32 {
+    let number = proved(key, chain);
+    let want = reference(key, chain).err().unwrap_or(0);
+    assert_eq!(number, want, "key of {key}, {name} of {}", chain.len());
     number
 }
 
-/// The book of a key and a chain in a buffer of a length: the number, and the buffer.
-pub fn build(key: &[u8], chain: &[u8], room: usize) -> (u32, Vec<u8>) {
+/// What is said of a chain for keys of so many bytes.
+pub fn check_chain(key: usize, chain: &[u8]) -> u32 {
+    let proved = bowlinette::check_chain;
+    checked("chain", (key, chain), proved, chain::check)
+}
+
+/// What is said of a reading chain for keys of so many bytes.
+pub fn check_reading_chain(key: usize, chain: &[u8]) -> u32 {
+    let proved = bowlinette::check_reading_chain;
+    checked("reading chain", (key, chain), proved, chain::check_reading)
+}
+
+/// What both versions of a builder make of a key and a chain in a buffer of a length: the number, and
+/// the buffer.
+fn built(
+    name: &str,
+    (key, chain, room): (&[u8], &[u8], usize),
+    proved: fn(&[u8], &[u8], &mut [u8]) -> u32,
+    reference: fn(&[u8], &[u8], &mut [u8]) -> Result<(), u32>,
+) -> (u32, Vec<u8>) {
     let (told, left) = both(
-        ("build", key.len(), chain.len(), room),
+        (name, key.len(), chain.len(), room),
         room,
-        |out| answer(bowlinette::build(key, chain, out)),
-        |out| book::build(key, chain, out),
+        |out| answer(proved(key, chain, out)),
+        |out| reference(key, chain, out),
     );
     (told.err().unwrap_or(0), left)
 }
 
-/// One round of it.
+/// The book of a key and a chain in a buffer of a length: the number, and the buffer.
+pub fn build(key: &[u8], chain: &[u8], room: usize) -> (u32, Vec<u8>) {
+    let proved = bowlinette::build;
+    built("build", (key, chain, room), proved, book::build)
+}
+
+/// The reading book of a key and a reading chain.
+pub fn build_reading(key: &[u8], chain: &[u8], room: usize) -> (u32, Vec<u8>) {
+    let proved = bowlinette::build_reading;
+    built("build_reading", (key, chain, room), proved, reading::build)
+}
+
+/// One round of a book.
 pub fn build_round(key: &[u8], chain: &[u8], number: usize, room: usize) -> (u32, Vec<u8>) {
     let (told, left) = both(
         ("build_round", key.len(), chain.len(), number, room),

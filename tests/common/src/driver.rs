@@ -1,8 +1,8 @@
-//! Rounds and sealing from books, on both versions.
+//! Rounds, sealing and reading from books, on both versions.
 
 use crate::lent::{both, told, written, FILL, LENGTH};
-use reference::driver;
 use reference::lea::Block;
+use reference::{driver, reading};
 
 /// A block through the first rounds of a book.
 pub fn rounds(book: &[u8], count: usize, block: &[u8]) -> Result<Block, u32> {
@@ -20,17 +20,31 @@ pub fn round(tables: &[u8], block: &[u8]) -> Result<Block, u32> {
     told
 }
 
-/// A coded message sealed into a buffer of a length: the number, and the buffer.
-pub fn seal(book: &[u8], iv: &[u8], coded: &[u8], room: usize) -> (u32, Vec<u8>) {
+/// What both versions of sealing or of reading make of a book, an IV and whole blocks in a buffer of a
+/// length: the number, and the buffer.
+fn passed(
+    name: &str,
+    (book, iv, text, room): (&[u8], &[u8], &[u8], usize),
+    proved: fn(&[u8], &[u8], &[u8], &mut [u8], &mut u64) -> u32,
+    reference: fn(&[u8], &[u8], &[u8], &mut [u8]) -> Result<usize, u32>,
+) -> (u32, Vec<u8>) {
     let (told, left) = both(
-        ("seal", book.len(), iv.len(), coded.len(), room),
+        (name, book.len(), iv.len(), text.len(), room),
         room,
-        |out| {
-            told(LENGTH, |length| {
-                bowlinette::seal(book, iv, coded, out, length)
-            })
-        },
-        |out| driver::seal(book, iv, coded, out).map(|n| n as u64),
+        |out| told(LENGTH, |length| proved(book, iv, text, out, length)),
+        |out| reference(book, iv, text, out).map(|n| n as u64),
     );
     (told.err().unwrap_or(0), left)
+}
+
+/// A coded message sealed into a buffer of a length: the number, and the buffer.
+pub fn seal(book: &[u8], iv: &[u8], coded: &[u8], room: usize) -> (u32, Vec<u8>) {
+    let proved = bowlinette::seal;
+    passed("seal", (book, iv, coded, room), proved, driver::seal)
+}
+
+/// A sealed message read by a reading book into a buffer of a length: the number, and the buffer.
+pub fn read(book: &[u8], iv: &[u8], sealed: &[u8], room: usize) -> (u32, Vec<u8>) {
+    let proved = bowlinette::read;
+    passed("read", (book, iv, sealed, room), proved, reading::read)
 }

@@ -11,9 +11,14 @@ pub mod driver;
 pub mod lent;
 pub mod pad;
 pub mod random;
+pub mod roundtrip;
 pub mod session;
 pub mod version;
-pub mod roundtrip;
 
 pub use lent::{FILL, LENGTH};
 pub use random::Random;
+
+/// The first, a middle and the last of so many.
+pub fn places(count: usize) -> [usize; 3] {
+    [0, count / 2, count - 1]
+}

@@ -23,6 +23,12 @@ pub fn due(uses: Use, n: usize) -> usize {
     }
 }
 
+/// A message with its PKCS#7 padding.
+pub fn padded(message: &[u8]) -> Vec<u8> {
+    let added = BLOCK - message.len() % BLOCK;
+    [message, &vec![added as u8; added]].concat()
+}
+
 fn proved(uses: Use, u: &[u8], message: &[u8], out: &mut [u8]) -> Coded {
     match uses {
         Use::Sealing => told(LENGTH, |length| {

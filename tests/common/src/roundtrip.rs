@@ -64,7 +64,8 @@ impl<'a> Given<'a> {
     pub fn sealed(&self) -> u32 {
         let (mut buffers, mut told) = (self.buffers(), LENGTH);
         let (key, chain, iv) = (&self.key, &self.chain, &self.iv);
-        let number = bowlinette::seal_roundtrip(key, chain, iv, self.message, &mut buffers, &mut told);
+        let number =
+            bowlinette::seal_roundtrip(key, chain, iv, self.message, &mut buffers, &mut told);
         let left = Left {
             number,
             told,

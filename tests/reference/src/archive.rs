@@ -18,10 +18,7 @@ pub fn open(
     let size = lea::schedule(key, &mut rows)?;
     chain::check_set(set)?;
     let (iv, n) = (lea::whole(iv)?, sealed.len());
-    if n == 0 || n > driver::LONGEST || n % 16 != 0 {
-        return Err(refusal::MESSAGE_LENGTH);
-    }
-    let room = out.get_mut(..n).ok_or(refusal::SHORT_OUTPUT)?;
+    let room = driver::room(n, out)?;
     let keys = Keys {
         rows: &rows[..size.rounds()],
         plain: chain::preimages(set),

@@ -13,9 +13,12 @@ pub const ADD: usize = 512;
 pub const TURN: usize = 256;
 pub const ROUND: usize = MIDDLES * (ADD + TURN);
 
+/// Half byte j of new word i is made of the half bytes j + high and j + low, mod 8, of sum i.
+pub const TURNED: [(usize, usize); 3] = [(6, 5), (2, 1), (1, 0)];
+
 /// Coding k of those in a row.
 #[inline]
-fn coding(codings: &[u8], k: usize) -> &[u8; CODING] {
+pub(crate) fn coding(codings: &[u8], k: usize) -> &[u8; CODING] {
     codings[CODING * k..][..CODING].try_into().unwrap()
 }
 
@@ -38,105 +41,150 @@ pub fn double(block: Block) -> Block {
     ((number << 1) ^ fallen).to_be_bytes()
 }
 
+/// The entries of an add table, index 256c + 16p + q, from the entry of each sum mod 32: what is added
+/// is what c, p and q stand for.
+#[inline]
+pub(crate) fn add_entries(
+    entry: [u8; 32],
+    carries: [u8; 2],
+    first: [u8; CODING],
+    second: [u8; CODING],
+    out: &mut [u8],
+) {
+    for (half, c) in out.chunks_exact_mut(256).zip(carries) {
+        for (row, a) in half.chunks_exact_mut(16).zip(first) {
+            for (e, b) in row.iter_mut().zip(second) {
+                *e = entry[usize::from(c + a + b) % 32];
+            }
+        }
+    }
+}
+
+/// The entries of a turn table, index 16p + q, of the half bytes u and v that p and q decode to: the
+/// image of 2u + v/8 or, by a factor of 8, of 8u + v/2, mod 16.
+#[inline]
+pub(crate) fn turn_entries(
+    factor: u8,
+    first: &[u8; CODING],
+    second: &[u8; CODING],
+    image: &[u8; CODING],
+    out: &mut [u8],
+) {
+    let first = first.map(|u| factor * u);
+    let second = second.map(|v| v / (16 / factor));
+    for (row, u) in out.chunks_exact_mut(16).zip(first) {
+        for (e, v) in row.iter_mut().zip(second) {
+            *e = image[usize::from(u + v) % 16];
+        }
+    }
+}
+
+/// The 24 tables of a kind in a round, of so many bytes each: table (i, j) is number 8i + j.
+pub(crate) fn fill(out: &mut [u8], bytes: usize, table: impl Fn(usize, usize, &mut [u8])) {
+    for (k, place) in out.chunks_exact_mut(bytes).enumerate() {
+        table(k / 8, k % 8, place);
+    }
+}
+
 /// What the tables of a round are made of.
-struct Round<'a> {
-    row: &'a Row,
+pub(crate) struct Round<'a> {
+    pub(crate) row: &'a Row,
     /// Set l, inverted.
-    before: [u8; SET],
+    pub(crate) before: [u8; SET],
     /// Set l + 1.
-    after: &'a [u8],
-    middles: &'a [u8],
+    pub(crate) after: &'a [u8],
+    pub(crate) middles: &'a [u8],
     /// The middle codings, inverted.
-    opened: [u8; MIDDLES * CODING],
-    masks: &'a [u8],
+    pub(crate) opened: [u8; MIDDLES * CODING],
+    pub(crate) masks: &'a [u8],
 }
 
 impl<'a> Round<'a> {
-    fn new(chain: Chain<'a>, row: &'a Row, l: usize) -> Round<'a> {
-        let mut round = Round {
+    pub(crate) fn new(chain: Chain<'a>, row: &'a Row, l: usize) -> Round<'a> {
+        Round {
             row,
-            before: [0; SET],
+            before: chain::inverted(chain.set(l)),
             after: chain.set(l + 1),
             middles: chain.middles(l),
-            opened: [0; MIDDLES * CODING],
+            opened: chain::inverted(chain.middles(l)),
             masks: chain.masks(l),
-        };
-        chain::invert(chain.set(l), &mut round.before);
-        chain::invert(round.middles, &mut round.opened);
-        round
+        }
     }
 
-    /// Add table (i, j): the entry depends on the sum of its three addends alone.
-    fn add_table(&self, i: usize, j: usize, out: &mut [u8]) {
-        let place = 8 * i + j;
-        let (key, other) = (half(self.row[2 * i], j), half(self.row[2 * i + 1], j));
-        let first = coding(&self.before, place).map(|a| a ^ key);
-        let second = coding(&self.before, place + 8).map(|b| b ^ other);
-        let middle = coding(self.middles, place);
-        let entry: [u8; 32] = std::array::from_fn(|s| {
-            let carry = match j {
+    /// The halves of both round keys of word i that table (i, j) has in it.
+    #[inline]
+    pub(crate) fn keys(&self, i: usize, j: usize) -> (u8, u8) {
+        (half(self.row[2 * i], j), half(self.row[2 * i + 1], j))
+    }
+
+    /// The entries of each sum mod 32 at a place: what its half byte is coded as, and the masked carry.
+    #[inline]
+    pub(crate) fn coded(&self, place: usize, image: &[u8; CODING]) -> [u8; 32] {
+        std::array::from_fn(|s| {
+            let carry = match place % 8 {
                 7 => 0,
                 _ => (s / 16) as u8 ^ self.masks[place + 1],
             };
-            16 * carry + middle[s % 16]
-        });
-        for (k, row) in out.chunks_exact_mut(16).enumerate() {
-            let sum = first[k % 16] + ((k / 16) as u8 ^ self.masks[place]);
-            for (e, b) in row.iter_mut().zip(second) {
-                *e = entry[usize::from(sum + b) % 32];
-            }
-        }
+            16 * carry + image[s % 16]
+        })
+    }
+
+    /// The carries that the two carry bits stand for at a place.
+    #[inline]
+    pub(crate) fn carries(&self, place: usize) -> [u8; 2] {
+        [0, 1].map(|c| c ^ self.masks[place])
+    }
+
+    /// Add table (i, j).
+    fn add_table(&self, i: usize, j: usize, out: &mut [u8]) {
+        let (place, (key, other)) = (8 * i + j, self.keys(i, j));
+        let first = coding(&self.before, place).map(|a| a ^ key);
+        let second = coding(&self.before, place + 8).map(|b| b ^ other);
+        let entry = self.coded(place, coding(self.middles, place));
+        add_entries(entry, self.carries(place), first, second, out);
     }
 
     /// Turn table (i, j).
     fn turn_table(&self, i: usize, j: usize, out: &mut [u8]) {
-        let (high, low) = match i {
-            0 => (j + 6, j + 5),
-            1 => (j + 2, j + 1),
-            _ => (j + 1, j),
-        };
-        let (factor, divisor) = if i == 1 { (8, 2) } else { (2, 8) };
-        let first = coding(&self.opened, 8 * i + high % 8).map(|u| factor * u);
-        let second = coding(&self.opened, 8 * i + low % 8).map(|v| v / divisor);
-        let image = coding(self.after, 8 * i + j);
-        for (row, u) in out.chunks_exact_mut(16).zip(first) {
-            for (e, v) in row.iter_mut().zip(second) {
-                *e = image[usize::from(u + v) % 16];
-            }
-        }
+        let (high, low) = TURNED[i];
+        let first = coding(&self.opened, 8 * i + (j + high) % 8);
+        let second = coding(&self.opened, 8 * i + (j + low) % 8);
+        let factor = if i == 1 { 8 } else { 2 };
+        turn_entries(factor, first, second, coding(self.after, 8 * i + j), out);
     }
 
     fn tables(&self, out: &mut [u8]) {
         let (adds, turns) = out.split_at_mut(MIDDLES * ADD);
-        for (k, table) in adds.chunks_exact_mut(ADD).enumerate() {
-            self.add_table(k / 8, k % 8, table);
-        }
-        for (k, table) in turns.chunks_exact_mut(TURN).enumerate() {
-            self.turn_table(k / 8, k % 8, table);
-        }
+        fill(adds, ADD, |i, j, table| self.add_table(i, j, table));
+        fill(turns, TURN, |i, j, table| self.turn_table(i, j, table));
     }
 }
 
-/// The three groups of fold tables, from the last set and U, both inverted, and set 0.
-fn groups(chain: Chain, keys: [Block; 3], out: &mut [u8]) {
-    let (mut last, mut message) = ([0; SET], [0; SET]);
-    chain::invert(chain.set(chain.rounds()), &mut last);
-    chain::invert(chain.message(), &mut message);
-    for (group, key) in out.chunks_exact_mut(GROUP).zip(keys) {
-        for (p, table) in group.chunks_exact_mut(FOLD).enumerate() {
-            let (second, image) = (coding(&message, p), coding(chain.set(0), p));
-            let first = coding(&last, p).map(|t| t ^ block_half(&key, p));
-            for (row, t) in table.chunks_exact_mut(16).zip(first) {
-                for (e, m) in row.iter_mut().zip(second) {
-                    *e = image[usize::from(t ^ m) % 16];
-                }
+/// A group of fold tables: half bytes decoded by two sets, given inverted, are xored, with a key too,
+/// and coded by a third set.
+pub(crate) fn fold_group(opened: [&[u8; SET]; 2], key: &Block, set: &[u8], group: &mut [u8]) {
+    for (p, table) in group.chunks_exact_mut(FOLD).enumerate() {
+        let (second, image) = (coding(opened[1], p), coding(set, p));
+        let first = coding(opened[0], p).map(|t| t ^ block_half(key, p));
+        for (row, t) in table.chunks_exact_mut(16).zip(first) {
+            for (e, m) in row.iter_mut().zip(second) {
+                *e = image[usize::from(t ^ m) % 16];
             }
         }
     }
 }
 
+/// The three groups of fold tables, from the last set and U to set 0.
+fn groups(chain: Chain, keys: [Block; 3], out: &mut [u8]) {
+    let last = chain::inverted(chain.set(chain.rounds()));
+    let message = chain::inverted(chain.message());
+    for (group, key) in out.chunks_exact_mut(GROUP).zip(keys) {
+        fold_group([&last, &message], &key, chain.set(0), group);
+    }
+}
+
 /// Refuses an output that is too short; else the part of it that is written.
-fn room(out: &mut [u8], bytes: usize) -> Result<&mut [u8], u32> {
+pub(crate) fn room(out: &mut [u8], bytes: usize) -> Result<&mut [u8], u32> {
     out.get_mut(..bytes).ok_or(refusal::SHORT_OUTPUT)
 }
 

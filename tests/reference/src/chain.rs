@@ -15,6 +15,17 @@ pub const MIDDLES: usize = 24;
 /// What a chain holds for each round after its sets.
 pub const ROUND: usize = MIDDLES * CODING + MIDDLES;
 
+/// The word rule of a kind of chain: word `old` of set l is, byte for byte, word `new` of set l + 1.
+#[derive(Clone, Copy)]
+struct Rule {
+    old: usize,
+    new: usize,
+}
+
+/// Chains of 01, and reading chains (request 2026-01).
+const SEALING: Rule = Rule { old: 0, new: 3 };
+const READING: Rule = Rule { old: 3, new: 0 };
+
 /// The bytes of a chain, of the length that its rounds need, by name.
 #[derive(Clone, Copy)]
 pub struct Chain<'a> {
@@ -63,12 +74,12 @@ impl<'a> Chain<'a> {
     }
 
     /// Refuses a chain that is not valid, the lowest number first.
-    fn checked(self) -> Result<Chain<'a>, u32> {
+    fn checked(self, rule: Rule) -> Result<Chain<'a>, u32> {
         let rounds = 0..self.rounds;
         if !permute(self.sets()) || !rounds.clone().all(|l| permute(self.middles(l))) {
             return Err(refusal::NO_PERMUTATION);
         }
-        let kept = |l| self.set(l + 1)[3 * WORD..] == self.set(l)[..WORD];
+        let kept = |l| word(self.set(l + 1), rule.new) == word(self.set(l), rule.old);
         if !rounds.clone().all(kept) {
             return Err(refusal::WORD_RULE);
         }
@@ -83,6 +94,11 @@ impl<'a> Chain<'a> {
     }
 }
 
+/// The codings of word w of a set.
+fn word(set: &[u8], w: usize) -> &[u8] {
+    &set[WORD * w..][..WORD]
+}
+
 /// Whether each coding of these bytes is a permutation of 0 to 15.
 fn permute(codings: &[u8]) -> bool {
     codings.chunks_exact(CODING).all(|coding| {
@@ -94,10 +110,19 @@ fn permute(codings: &[u8]) -> bool {
     })
 }
 
+fn check_by(rule: Rule, key_bytes: usize, chain: &[u8]) -> Result<Chain<'_>, u32> {
+    let size = Size::of_key(key_bytes).ok_or(refusal::KEY_LENGTH)?;
+    Chain::new(size, chain)?.checked(rule)
+}
+
 /// A valid chain for a key of so many bytes, or the refusal.
 pub fn check(key_bytes: usize, chain: &[u8]) -> Result<Chain<'_>, u32> {
-    let size = Size::of_key(key_bytes).ok_or(refusal::KEY_LENGTH)?;
-    Chain::new(size, chain)?.checked()
+    check_by(SEALING, key_bytes, chain)
+}
+
+/// A valid reading chain for a key of so many bytes, or the refusal.
+pub fn check_reading(key_bytes: usize, chain: &[u8]) -> Result<Chain<'_>, u32> {
+    check_by(READING, key_bytes, chain)
 }
 
 /// Whether a set that comes alone is valid, or the refusal.
@@ -111,8 +136,9 @@ pub fn check_set(set: &[u8]) -> Result<(), u32> {
     }
 }
 
-/// Codings inverted, each in its place.
-pub fn invert(codings: &[u8], out: &mut [u8]) {
+/// Codings of so many bytes inverted, each in its place.
+pub fn inverted<const N: usize>(codings: &[u8]) -> [u8; N] {
+    let mut out = [0; N];
     for (coding, inverse) in codings
         .chunks_exact(CODING)
         .zip(out.chunks_exact_mut(CODING))
@@ -121,6 +147,7 @@ pub fn invert(codings: &[u8], out: &mut [u8]) {
             inverse[usize::from(image) % CODING] = v as u8;
         }
     }
+    out
 }
 
 /// A block coded by a set: half byte p, in byte p / 2 and low if p is even, by coding p.
@@ -134,9 +161,7 @@ pub fn code(set: &[u8], block: &Block) -> Block {
 
 /// A block decoded by a set.
 pub fn decode(set: &[u8], coded: &Block) -> Block {
-    let mut inverse = [0; SET];
-    invert(set, &mut inverse);
-    code(&inverse, coded)
+    code(&inverted::<SET>(set), coded)
 }
 
 /// What each byte becomes in each place of a block coded by a set.
@@ -155,25 +180,45 @@ pub fn images(set: &[u8]) -> [[u8; 256]; 16] {
 
 /// What each byte becomes in each place of a block decoded by a set.
 pub fn preimages(set: &[u8]) -> [[u8; 256]; 16] {
-    let mut inverse = [0; SET];
-    invert(set, &mut inverse);
-    images(&inverse)
+    images(&inverted::<SET>(set))
+}
+
+/// Bytes decoded by a set, block after block.
+pub fn decode_all(set: &[u8], coded: &[u8]) -> Vec<u8> {
+    let plain = preimages(set);
+    let byte = |(k, &x): (usize, &u8)| plain[k % 16][usize::from(x)];
+    coded.iter().enumerate().map(byte).collect()
 }
 
 /// A random valid chain; `below` gives a number below its argument.
-pub fn random(size: Size, mut below: impl FnMut(usize) -> usize) -> Vec<u8> {
+pub fn random(size: Size, below: impl FnMut(usize) -> usize) -> Vec<u8> {
+    random_by(SEALING, size, None, below)
+}
+
+/// A random valid reading chain; its set 0 is the one given, if one is.
+pub fn random_reading(
+    size: Size,
+    first: Option<&[u8]>,
+    below: impl FnMut(usize) -> usize,
+) -> Vec<u8> {
+    random_by(READING, size, first, below)
+}
+
+fn random_by(
+    rule: Rule,
+    size: Size,
+    first: Option<&[u8]>,
+    mut below: impl FnMut(usize) -> usize,
+) -> Vec<u8> {
     let rounds = size.rounds();
-    let mut chain = Vec::with_capacity(size.chain_bytes());
-    for set in 0..rounds + 2 {
-        for coding in 0..32 {
-            let shuffled = permutation(&mut below);
-            let before = chain.len().wrapping_sub(SET + 3 * WORD);
-            if set >= 2 && coding >= 24 {
-                chain.extend_from_within(before..before + CODING);
-            } else {
-                chain.extend(shuffled);
-            }
-        }
+    let codings = (0..32 * (rounds + 2)).flat_map(|_| permutation(&mut below));
+    let mut chain: Vec<u8> = codings.collect();
+    if let Some(set) = first {
+        chain[SET..2 * SET].copy_from_slice(set);
+    }
+    for set in 1..=rounds {
+        let old = SET * set + WORD * rule.old;
+        chain.copy_within(old..old + WORD, SET * (set + 1) + WORD * rule.new);
     }
     for _ in 0..rounds {
         for _ in 0..MIDDLES {

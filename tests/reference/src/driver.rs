@@ -1,7 +1,7 @@
 //! The driver (01, "Pad, driver, archive"): rounds, sealing and the tag session from a book of any
 //! bytes. Of an add table's entry it uses the bits 0 to 4, of any other entry the bits 0 to 3.
 
-use crate::book::{ADD, FOLD, GROUP, ROUND, START, TURN};
+use crate::book::{ADD, FOLD, GROUP, ROUND, START, TURN, TURNED};
 use crate::chain::MIDDLES;
 use crate::lea::{whole, Block};
 use crate::refusal;
@@ -25,29 +25,29 @@ pub fn block(halves: &Halves) -> Block {
     std::array::from_fn(|k| halves[2 * k] + 16 * halves[2 * k + 1])
 }
 
-/// The half bytes of word i's sum: its add tables in order, each with the carry of the one before.
+/// The half bytes that eight add tables give for two words: in order, each with the carry of the one
+/// before.
 #[inline]
-fn sums(adds: &[u8], old: &Halves, i: usize) -> [u8; 8] {
+pub(crate) fn added(tables: &[u8], first: &[u8], second: &[u8]) -> [u8; 8] {
     let (mut out, mut carry) = ([0; 8], 0);
     for j in 0..8 {
-        let (p, q) = (old[8 * i + j], old[8 * i + 8 + j]);
+        let (p, q) = (first[j], second[j]);
         let index = 256 * carry + 16 * usize::from(p) + usize::from(q);
-        let entry = adds[ADD * (8 * i + j) + index];
+        let entry = tables[ADD * j + index];
         out[j] = entry & 15;
         carry = usize::from(entry >> 4 & 1);
     }
     out
 }
 
-/// The new word i from its sums' half bytes.
+/// The half bytes that eight turn tables give for a word: number j looks at j + high and j + low.
 #[inline]
-fn turned(turns: &[u8], sums: &[u8; 8], i: usize, new: &mut Halves) {
-    let (high, low) = [(6, 5), (2, 1), (1, 0)][i];
-    for j in 0..8 {
-        let (p, q) = (sums[(j + high) % 8], sums[(j + low) % 8]);
+pub(crate) fn turned(tables: &[u8], word: &[u8], (high, low): (usize, usize)) -> [u8; 8] {
+    std::array::from_fn(|j| {
+        let (p, q) = (word[(j + high) % 8], word[(j + low) % 8]);
         let index = 16 * usize::from(p) + usize::from(q);
-        new[8 * i + j] = turns[TURN * (8 * i + j) + index] & 15;
-    }
+        tables[TURN * j + index] & 15
+    })
 }
 
 /// One round of tables.
@@ -55,8 +55,10 @@ fn turned(turns: &[u8], sums: &[u8; 8], i: usize, new: &mut Halves) {
 pub fn round(tables: &[u8], old: &Halves) -> Halves {
     let (adds, turns) = tables.split_at(MIDDLES * ADD);
     let mut new = [0; 32];
-    for i in 0..3 {
-        turned(turns, &sums(adds, old, i), i, &mut new);
+    for (i, places) in TURNED.into_iter().enumerate() {
+        let at = 8 * i;
+        let sum = added(&adds[ADD * at..], &old[at..at + 8], &old[at + 8..at + 16]);
+        new[at..at + 8].copy_from_slice(&turned(&turns[TURN * at..], &sum, places));
     }
     new[24..].copy_from_slice(&old[..8]);
     new
@@ -128,20 +130,25 @@ pub fn run_rounds(book: &[u8], count: usize, text: &[u8]) -> Result<Block, u32> 
     Ok(block(&book.run(count, halves(whole(text)?))))
 }
 
+/// The front of an output for so many coded or sealed bytes; refuses none of them, too many or no whole
+/// blocks, and then an output that is too short.
+pub fn room(bytes: usize, out: &mut [u8]) -> Result<&mut [u8], u32> {
+    if bytes == 0 || bytes > LONGEST || bytes % 16 != 0 {
+        return Err(refusal::MESSAGE_LENGTH);
+    }
+    out.get_mut(..bytes).ok_or(refusal::SHORT_OUTPUT)
+}
+
 /// A coded message sealed from an IV, to the front of out: the length of what was written.
 pub fn seal(book: &[u8], iv: &[u8], coded: &[u8], out: &mut [u8]) -> Result<usize, u32> {
     let book = Book::new(book)?;
     let mut x = halves(whole(iv)?);
-    let n = coded.len();
-    if n == 0 || n > LONGEST || n % 16 != 0 {
-        return Err(refusal::MESSAGE_LENGTH);
-    }
-    let room = out.get_mut(..n).ok_or(refusal::SHORT_OUTPUT)?;
+    let room = room(coded.len(), out)?;
     for (text, place) in coded.chunks_exact(16).zip(room.chunks_exact_mut(16)) {
         x = book.absorb(0, &x, whole(text)?);
         place.copy_from_slice(&block(&x));
     }
-    Ok(n)
+    Ok(coded.len())
 }
 
 /// A tag session: the block it holds, how many block calls it has taken, whether its last call has

@@ -1,5 +1,5 @@
-//! Document 01 in Rust, written from its words alone: what the proved library is compared with, and
-//! the yardstick of the benchmarks.
+//! Document 01 and request 2026-01 in Rust, written from their words alone: what the proved library is
+//! compared with, and the yardstick of the benchmarks.
 
 pub mod archive;
 pub mod book;
@@ -7,6 +7,7 @@ pub mod chain;
 pub mod driver;
 pub mod lea;
 pub mod pad;
+pub mod reading;
 pub mod refusal;
 pub mod round;
 pub mod size;

@@ -6,11 +6,11 @@ pub const KEY_LENGTH: u32 = 1;
 pub const CHAIN_LENGTH: u32 = 2;
 /// A coding is no permutation.
 pub const NO_PERMUTATION: u32 = 3;
-/// Word 3 of a set is not coded as word 0 of the set before.
+/// Word 3 of a set is not coded as word 0 of the set before; in a reading chain, word 0 not as word 3.
 pub const WORD_RULE: u32 = 4;
 /// A mask is over 1, or not 0 at half byte 0.
 pub const MASK: u32 = 5;
-/// A book has none of the three lengths, or the tables of a round not 18,432 bytes.
+/// A book or reading book has none of its three lengths, or the tables of a round not 18,432 bytes.
 pub const BOOK_LENGTH: u32 = 6;
 /// A block, IV or tag is not of 16 bytes.
 pub const BLOCK_LENGTH: u32 = 7;

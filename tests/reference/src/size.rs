@@ -53,4 +53,10 @@ impl Size {
     pub fn book_bytes(self) -> usize {
         24_592 + 18_432 * self.rounds()
     }
+
+    /// A reading book in bytes (request 2026-01).
+    #[inline]
+    pub fn reading_bytes(self) -> usize {
+        8_192 + 18_432 * self.rounds()
+    }
 }

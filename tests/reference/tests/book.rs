@@ -1,33 +1,14 @@
 //! Books of the reference by what they are for: their tables, run on coded blocks and decoded, do
 //! what LEA does.
 
-use reference::book::{self, GROUP, ROUND, START};
+mod given;
+
+use given::{built, numbers, xor};
+use reference::book::{GROUP, ROUND, START};
 use reference::chain::{self, decode};
 use reference::driver::{block, fold, halves, round};
 use reference::lea::{self, Block};
 use reference::Size;
-
-/// Numbers below a bound, the same in every run.
-fn numbers(seed: u32) -> impl FnMut(usize) -> usize {
-    let mut state = seed;
-    move |bound| {
-        state = state.wrapping_mul(1_664_525).wrapping_add(1_013_904_223);
-        (state >> 16) as usize % bound
-    }
-}
-
-fn xor(a: Block, b: Block) -> Block {
-    std::array::from_fn(|k| a[k] ^ b[k])
-}
-
-/// A key, a chain and their book.
-fn built(size: Size, below: &mut impl FnMut(usize) -> usize) -> (Vec<u8>, Vec<u8>, Vec<u8>) {
-    let key: Vec<u8> = (0..size.key_bytes()).map(|_| below(256) as u8).collect();
-    let chain = chain::random(size, below);
-    let mut book = vec![0; size.book_bytes()];
-    assert_eq!(book::build(&key, &chain, &mut book), Ok(()));
-    (key, chain, book)
-}
 
 #[test]
 fn rounds_of_tables_are_rounds_of_the_cipher() {
@@ -36,7 +17,7 @@ fn rounds_of_tables_are_rounds_of_the_cipher() {
         let (key, bytes, book) = built(size, &mut below);
         let chain = chain::check(key.len(), &bytes).ok().unwrap();
         for _ in 0..20 {
-            let coded: Block = std::array::from_fn(|_| below(256) as u8);
+            let coded = given::block(&mut below);
             let (plain, mut x) = (decode(chain.set(0), &coded), halves(&coded));
             for l in 0..size.rounds() {
                 x = round(&book[START + 3 * GROUP + ROUND * l..][..ROUND], &x);
@@ -60,8 +41,7 @@ fn folds_are_xors() {
         let double = |n: u128| (n << 1) ^ ((n >> 127) * 0x87);
         let keys = [0, double(l), double(double(l))].map(u128::to_be_bytes);
         for (group, subkey) in book[START..][..3 * GROUP].chunks_exact(GROUP).zip(keys) {
-            let text: Block = std::array::from_fn(|_| below(256) as u8);
-            let message: Block = std::array::from_fn(|_| below(256) as u8);
+            let (text, message) = (given::block(&mut below), given::block(&mut below));
             let folded = block(&fold(group, &halves(&text), &halves(&message)));
             let plain = xor(decode(last, &text), decode(chain.message(), &message));
             assert_eq!(

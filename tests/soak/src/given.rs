@@ -9,12 +9,13 @@ use shared::archive::sealed_text;
 use shared::books::{self, Built};
 use shared::Random;
 
-/// What a round of the soak draws from: its numbers, a size with a key, a chain and their book, and a
-/// text of which messages are parts.
+/// What a round of the soak draws from: its numbers, a size with a key, a chain and their book, what
+/// reads the files that it seals, and a text of which messages are parts.
 pub struct Given<'a> {
     pub random: Random,
     pub size: Size,
     pub built: Built,
+    pub reading: Built,
     pub text: &'a [u8],
 }
 
@@ -25,10 +26,12 @@ impl<'a> Given<'a> {
     pub fn new(mut random: Random, text: &'a [u8]) -> Given<'a> {
         let size = random.one_of(&Size::ALL);
         let built = books::built(size, &mut random);
+        let reading = built.reading(&mut random);
         Given {
             random,
             size,
             built,
+            reading,
             text,
         }
     }
@@ -126,9 +129,18 @@ impl<'a> Given<'a> {
         };
     }
 
-    /// The chain, damaged in one to three places where it is to be wrong.
+    /// The chain.
     pub fn chain(&mut self, wrong: bool) -> Vec<u8> {
-        let mut chain = self.built.chain.clone();
+        self.damaged(self.built.chain.clone(), wrong)
+    }
+
+    /// The reading chain.
+    pub fn reading_chain(&mut self, wrong: bool) -> Vec<u8> {
+        self.damaged(self.reading.chain.clone(), wrong)
+    }
+
+    /// A chain, damaged in one to three places where it is to be wrong.
+    fn damaged(&mut self, mut chain: Vec<u8>, wrong: bool) -> Vec<u8> {
         if wrong {
             for _ in 0..1 + self.random.below(3) {
                 self.damage(&mut chain);
@@ -146,7 +158,7 @@ impl<'a> Given<'a> {
         let middles = sets + chain::ROUND * self.random.below(rounds);
         let masks = middles + CODING * MIDDLES;
         let swapped = SET * (1 + self.random.below(rounds + 1)) + self.random.below(WORD - 1);
-        match self.random.below(9) {
+        match self.random.below(11) {
             0 => self.recut(chain),
             1 => *chain = self.random.bytes(whole),
             2 => self.flip(chain),
@@ -155,18 +167,30 @@ impl<'a> Given<'a> {
             5 => chain.swap(swapped, swapped + 1),
             6 => chain.swap(swapped + 3 * WORD, swapped + 3 * WORD + 1),
             7 => chain[masks + self.random.below(MIDDLES)] = 2 + self.random.below(254) as u8,
-            _ => chain[masks + 8 * self.random.below(3)] = 1,
+            8 => chain[masks + 8 * self.random.below(3)] = 1,
+            9 => chain.clone_from(&self.built.chain),
+            _ => chain.clone_from(&self.reading.chain),
         }
     }
 
-    /// The book; or one with a bit changed, random bytes, or a wrong length.
+    /// The book.
     pub fn book(&mut self, wrong: bool) -> Vec<u8> {
-        let mut book = self.built.book.clone();
+        self.other_book(self.built.book.clone(), wrong)
+    }
+
+    /// The reading book.
+    pub fn reading_book(&mut self, wrong: bool) -> Vec<u8> {
+        self.other_book(self.reading.book.clone(), wrong)
+    }
+
+    /// A book; or one with a bit changed, random bytes, or a wrong length, that of the other kind too.
+    fn other_book(&mut self, mut book: Vec<u8>, wrong: bool) -> Vec<u8> {
         if wrong {
-            match self.random.below(4) {
+            match self.random.below(5) {
                 0 => self.flip(&mut book),
                 1 => book = self.other_size(Size::book_bytes),
-                2 => book.truncate(self.size.book_bytes() - ROUND),
+                2 => book = self.other_size(Size::reading_bytes),
+                3 => book.truncate(book.len() - ROUND),
                 _ => self.recut(&mut book),
             }
         }

@@ -4,15 +4,18 @@
 use crate::given::Given;
 use crate::tally::Tally;
 use reference::book::ROUND;
-use reference::chain;
+use reference::chain::{self, decode_all};
 use shared::archive::{check, open};
-use shared::book::{build, build_round, check_chain, check_set};
+use shared::book::{
+    build, build_reading, build_round, check_chain, check_reading_chain, check_set,
+};
+use shared::books::Built;
 use shared::cmac::cmac;
-use shared::driver::{round, rounds, seal};
-use shared::pad::{code, due, Use};
+use shared::driver::{read, round, rounds, seal};
+use shared::pad::{code, due, padded, Use};
+use shared::roundtrip;
 use shared::session::{tag, Both, Call};
 use shared::version::{PROVED, REFERENCE};
-use shared::roundtrip;
 use std::fmt::Debug;
 
 pub struct Round<'a> {
@@ -22,22 +25,26 @@ pub struct Round<'a> {
 
 impl Round<'_> {
     pub fn run(&mut self) {
-        let book = self.given.built.book.clone();
+        let books = [&self.given.built, &self.given.reading].map(|built| built.book.clone());
         for _ in 0..8 {
             self.cipher();
             self.checks();
             self.rounds();
             self.codes();
             self.seal();
+            self.read();
             self.open();
             self.check();
         }
         self.build();
+        self.build_reading();
         self.build_round();
         self.calls();
-        self.whole_ways();
+        self.sealed_way();
+        self.tagged_way();
         self.roundtrips();
-        assert!(self.given.built.book == book, "the book");
+        let after = [&self.given.built, &self.given.reading].map(|built| &built.book);
+        assert!(after == [&books[0], &books[1]], "the books");
     }
 
     /// Counts a call: what it gave, or its number.
@@ -86,15 +93,20 @@ impl Round<'_> {
     }
 
     fn checks(&mut self) {
-        let [k, c, s] = self.given.wrong();
+        let [k, c, d, s] = self.given.wrong();
         let (key, chain) = (self.given.key(k), self.given.chain(c));
+        let reading = self.given.reading_chain(d);
         let number = self.given.random.below(self.given.size.rounds() + 2);
         let set = self.given.set(number, s);
-        let before = (chain.clone(), set.clone());
+        let before = (chain.clone(), reading.clone(), set.clone());
         self.tally
             .add("check_chain", check_chain(key.len(), &chain));
+        self.tally.add(
+            "check_reading_chain",
+            check_reading_chain(key.len(), &reading),
+        );
         self.tally.add("check_set", check_set(&set));
-        assert!((chain, set) == before, "chain and set");
+        assert!((chain, reading, set) == before, "chains and set");
     }
 
     fn rounds(&mut self) {
@@ -123,15 +135,31 @@ impl Round<'_> {
 
     fn seal(&mut self) {
         let [b, v, c, r] = self.given.wrong();
-        let (book, iv, coded) = (
-            self.given.book(b),
-            self.given.block(v),
-            self.given.blocks(c),
-        );
-        let room = self.given.room(coded.len(), r);
-        let before = (book.clone(), iv.clone(), coded.clone());
-        self.tally.add("seal", seal(&book, &iv, &coded, room).0);
-        assert!((book, iv, coded) == before, "book, IV and code");
+        let (book, iv) = (self.given.book(b), self.given.block(v));
+        let coded = self.given.blocks(c);
+        self.pass("seal", seal, [book, iv, coded], r);
+    }
+
+    fn read(&mut self) {
+        let [b, v, f, r] = self.given.wrong();
+        let (book, iv) = (self.given.reading_book(b), self.given.block(v));
+        let sealed = self.given.sealed(&iv, f);
+        self.pass("read", read, [book, iv, sealed], r);
+    }
+
+    /// A book, an IV and blocks given to sealing or reading, with a buffer that may be short.
+    fn pass(
+        &mut self,
+        name: &str,
+        call: fn(&[u8], &[u8], &[u8], usize) -> (u32, Vec<u8>),
+        given: [Vec<u8>; 3],
+        short: bool,
+    ) {
+        let before = given.clone();
+        let [book, iv, text] = &given;
+        let room = self.given.room(text.len(), short);
+        self.tally.add(name, call(book, iv, text, room).0);
+        assert!(given == before, "{name}: what is only read");
     }
 
     fn open(&mut self) {
@@ -165,16 +193,38 @@ impl Round<'_> {
 
     fn build(&mut self) {
         let [k, c, r] = self.given.wrong();
-        let (key, chain) = (self.given.key(k), self.given.chain(c));
-        let room = self.given.room(self.given.size.book_bytes(), r);
+        let given = (self.given.key(k), self.given.chain(c));
+        self.whole_book("build", build, given, r, |given| &given.built);
+    }
+
+    fn build_reading(&mut self) {
+        let [k, c, r] = self.given.wrong();
+        let given = (self.given.key(k), self.given.reading_chain(c));
+        self.whole_book("build_reading", build_reading, given, r, |given| {
+            &given.reading
+        });
+    }
+
+    /// A key and a chain given to a builder, with a buffer that may be short: from the round's own key and
+    /// chain it must build the round's own book.
+    fn whole_book(
+        &mut self,
+        name: &str,
+        call: fn(&[u8], &[u8], usize) -> (u32, Vec<u8>),
+        (key, chain): (Vec<u8>, Vec<u8>),
+        short: bool,
+        own: for<'b> fn(&'b Given) -> &'b Built,
+    ) {
+        let whole = own(&self.given).book.len();
+        let room = self.given.room(whole, short);
         let before = (key.clone(), chain.clone());
-        let (number, book) = build(&key, &chain, room);
-        self.tally.add("build", number);
-        if number == 0 && (&key, &chain) == (&self.given.built.key, &self.given.built.chain) {
-            let whole = self.given.size.book_bytes();
-            assert!(book[..whole] == self.given.built.book, "the book again");
+        let (number, book) = call(&key, &chain, room);
+        self.tally.add(name, number);
+        let own = own(&self.given);
+        if number == 0 && (&key, &chain) == (&own.key, &own.chain) {
+            assert!(book[..whole] == own.book, "{name}: the book again");
         }
-        assert!((key, chain) == before, "key and chain");
+        assert!((key, chain) == before, "{name}: key and chain");
     }
 
     fn build_round(&mut self) {
@@ -219,35 +269,35 @@ impl Round<'_> {
         assert!(book == before, "the book of the calls");
     }
 
-    /// A message through all parts by their own calls: its tag is Valid, and a bit away Invalid, and
-    /// what is sealed comes back.
-    fn whole_ways(&mut self) {
-        let message = self.given.message(false);
-        let (u, set) = (
-            self.given.set(0, false),
-            self.given.set(self.given.size.rounds() + 1, false),
-        );
-        let (iv, built) = (self.given.random.block(), &self.given.built);
-        let room = due(Use::Sealing, message.len());
-        let (told, coded) = code(Use::Sealing, &u, message, room);
+    /// A message through all parts by their own calls: what is sealed is read, and comes back.
+    fn sealed_way(&mut self) {
+        let (message, iv) = (self.given.message(false), self.given.random.block());
+        let (built, reading) = (&self.given.built, &self.given.reading);
+        let (text, n) = (padded(message), message.len());
+        let room = text.len();
+        let (told, coded) = code(Use::Sealing, built.message_set(), message, room);
         let (number, sealed) = seal(&built.book, &iv, &coded, room);
         assert_eq!((told, number), (Ok((room, None)), 0), "coded and sealed");
-        let opened = open(&built.key, &set, &iv, &sealed, room);
-        assert!(
-            opened.as_deref() == Ok(message),
-            "sealed and opened, {} bytes",
-            message.len()
-        );
-        let (told, coded) = code(Use::Tag, &u, message, room);
-        let (length, kind) = told.unwrap();
-        let mut tag = tag(&built.book, &coded[..length], kind.unwrap());
-        assert_eq!(check(&built.key, &set, message, &tag), Ok(true), "the tag");
+        let (number, out) = read(&reading.book, &iv, &sealed, room);
+        let plain = decode_all(reading.message_set(), &out);
+        assert!(number == 0 && plain == text, "sealed and read, {n} bytes");
+        let opened = open(&built.key, built.last_set(), &iv, &sealed, room);
+        let same = opened.as_deref() == Ok(message);
+        assert!(same, "sealed and opened, {n} bytes");
+    }
+
+    /// Its tag is Valid, and a bit away Invalid.
+    fn tagged_way(&mut self) {
+        let message = self.given.message(false);
+        let built = &self.given.built;
+        let (room, set) = (due(Use::Tag, message.len()), built.last_set());
+        let (told, coded) = code(Use::Tag, built.message_set(), message, room);
+        let (_, kind) = told.unwrap();
+        let mut tag = tag(&built.book, &coded, kind.unwrap());
+        assert_eq!(check(&built.key, set, message, &tag), Ok(true), "the tag");
         tag[self.given.random.below(16)] ^= 1 << self.given.random.below(8);
-        assert_eq!(
-            check(&built.key, &set, message, &tag),
-            Ok(false),
-            "not the tag"
-        );
+        let told = check(&built.key, set, message, &tag);
+        assert_eq!(told, Ok(false), "not the tag");
     }
 
     /// The two round trips as single calls.

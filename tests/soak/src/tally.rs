@@ -4,20 +4,23 @@ use std::collections::BTreeMap;
 use std::fmt::{Display, Formatter, Result};
 
 /// Every operation, in the order of the header, and the two round trips.
-const OPERATIONS: [&str; 20] = [
+const OPERATIONS: [&str; 23] = [
     "encipher",
     "decipher",
     "first_rounds",
     "round_keys",
     "check_set",
     "check_chain",
+    "check_reading_chain",
     "build",
     "build_round",
+    "build_reading",
     "code_for_sealing",
     "code_for_tag",
     "run_round",
     "run_rounds",
     "seal",
+    "read",
     "begin",
     "block_call",
     "last_call",
@@ -47,13 +50,13 @@ impl Display for Tally {
     fn fmt(&self, f: &mut Formatter<'_>) -> Result {
         writeln!(
             f,
-            "{:<18}{:>10}{:>10}  by number",
+            "{:<21}{:>10}{:>10}  by number",
             "", "answered", "refused"
         )?;
         for (name, seen) in OPERATIONS.iter().zip(&self.0) {
             let answered = seen.get(&0).unwrap_or(&0);
             let refused: u64 = seen.range(1..).map(|(_, count)| count).sum();
-            write!(f, "{name:<18}{answered:>10}{refused:>10} ")?;
+            write!(f, "{name:<21}{answered:>10}{refused:>10} ")?;
             for (number, count) in seen.range(1..) {
                 write!(f, " {number}: {count}")?;
             }

@@ -1,0 +1,31 @@
+//! What the tests of the reference draw from.
+
+use reference::lea::Block;
+use reference::{book, chain, Size};
+
+/// Numbers below a bound, the same in every run.
+pub fn numbers(seed: u32) -> impl FnMut(usize) -> usize {
+    let mut state = seed;
+    move |bound| {
+        state = state.wrapping_mul(1_664_525).wrapping_add(1_013_904_223);
+        (state >> 16) as usize % bound
+    }
+}
+
+/// A random block.
+pub fn block(below: &mut impl FnMut(usize) -> usize) -> Block {
+    std::array::from_fn(|_| below(256) as u8)
+}
+
+pub fn xor(a: Block, b: Block) -> Block {
+    std::array::from_fn(|k| a[k] ^ b[k])
+}
+
+/// A key, a chain and their book.
+pub fn built(size: Size, below: &mut impl FnMut(usize) -> usize) -> (Vec<u8>, Vec<u8>, Vec<u8>) {
+    let key: Vec<u8> = (0..size.key_bytes()).map(|_| below(256) as u8).collect();
+    let chain = chain::random(size, below);
+    let mut book = vec![0; size.book_bytes()];
+    assert_eq!(book::build(&key, &chain, &mut book), Ok(()));
+    (key, chain, book)
+}
