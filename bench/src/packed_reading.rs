@@ -1,6 +1,6 @@
 //! Reading in Rust in the shape of the proved one: the sealed blocks are copied to the output, all of them
-//! go through a round there before any goes through the next, two side by side, and at last each is folded
-//! with the sealed block before it.
+//! go through a round there before any goes through the next, and at last each is folded with the sealed
+//! block before it.
 
 use crate::packed::{add_two, fold, turn_two, Tables};
 use reference::book::{GROUP, TURN};
@@ -32,30 +32,12 @@ fn subtract(t: &Tables, s: &[u8; 12], m: usize, c: &mut [usize; 3], y: &mut Bloc
     (y[m + 12], c[2]) = add_two(t, place + 16 * SUBTRACT, c[2], s[m + 8], y[m + 8]);
 }
 
-/// A reading round of blocks side by side.
+/// A reading round.
 #[inline]
-fn step<const N: usize>(t: &Tables, blocks: [&mut Block; N]) {
-    let (s, mut c) = (
-        std::array::from_fn::<_, N, _>(|n| turned(t, blocks[n])),
-        [[0; 3]; N],
-    );
+fn step(t: &Tables, y: &mut Block) {
+    let (s, mut c) = (turned(t, y), [0; 3]);
     for m in 0..4 {
-        for n in 0..N {
-            subtract(t, &s[n], m, &mut c[n], blocks[n]);
-        }
-    }
-}
-
-/// All blocks through a round, a last odd one by itself.
-#[inline]
-fn step_all(t: &Tables, blocks: &mut [u8]) {
-    let mut pairs = blocks.chunks_exact_mut(32);
-    for pair in &mut pairs {
-        let (one, other) = pair.split_at_mut(16);
-        step(t, [one.try_into().unwrap(), other.try_into().unwrap()]);
-    }
-    if let Ok(last) = pairs.into_remainder().try_into() {
-        step(t, [last]);
+        subtract(t, &s, m, &mut c, y);
     }
 }
 
@@ -68,7 +50,10 @@ pub fn read(book: &[u8], iv: &[u8], sealed: &[u8], out: &mut [u8]) -> Result<usi
     let (iv, room) = (whole(iv)?, room(sealed.len(), out)?);
     room.copy_from_slice(sealed);
     for tables in rounds.chunks_exact(ROUND) {
-        step_all(tables.try_into().unwrap(), room);
+        let tables = tables.try_into().unwrap();
+        for block in room.chunks_exact_mut(16) {
+            step(tables, block.try_into().unwrap());
+        }
     }
     let before = sealed.chunks_exact(16).map(|text| text.try_into().unwrap());
     for (place, before) in room
