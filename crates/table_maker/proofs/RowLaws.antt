@@ -1,9 +1,10 @@
--- Laws of the builder's loops: one that fills an array by a rule, one that writes a row of a table, one that writes a table row by row,
--- each with what holds at its counter, a turn and its end; and half bytes cut out by a shift.
-use mathlib.Core.Path.{_≡_, ap₂, _∙_}
+-- Laws of the builder's loops: one that fills an array by a rule, one that writes a row of a table, one that writes parts one after
+-- another, as the rows of a table, each with what holds at its counter, a turn and its end; and half bytes cut out by a shift.
+use mathlib.Core.Path.{_≡_, sym, ap, ap₂, _∙_}
 use mathlib.Core.List.{List, _++_}
 use Prim.Native.Nat.{ℕ, zero, suc, _+_, _-_, _*_, _/_, _%_, _^_, _≤_, _<_}
-use native.Mathlib.Nat.{pow-suc, div-div-eq-div-mul, div-one}
+use native.Mathlib.Nat.{pow-suc, div-div-eq-div-mul, div-one, suc-mul, le-of-eq}
+use native.Mathlib.Numerals.{add-one}
 use native.Mathlib.Omega.{arith}
 use lib.ListN.{length, getD, set, take, drop, replicate, length-set}
 use Rattle.lists.specs.HalfBytes.{halfByte}
@@ -60,30 +61,46 @@ module _ (op : ℕ → ℕ → ℕ) (e : List ℕ) (s : ℕ) (b out₀ : List �
   unfolding rowBy
   row-done out q h l r = tab-full (λ n. getD e (op s (getD b n 0)) 0) out₀ out 16 q (h .2) (omega (arith, h .0)) r
 
--- ---- a table by an operation, written up to row x, which is the place at
+-- ---- n parts of s bytes, part x by the rule g, written up to part x, which is the place at
+
+module _ (g : ℕ → List ℕ) (s n : ℕ) (out₀ : List ℕ) where
+  abbrev pub PartsTill : List ℕ → ℕ → ℕ → Type 0
+  PartsTill out at x = (x ≤ n) × (at ≡ x * s) × (length out ≡ length out₀) × (out ≡ chunks x g ++ drop at out₀)
+
+  -- the part that was lent came back as q
+  abbrev grown : List ℕ → List ℕ → ℕ → List ℕ
+  grown out q at = take at out ++ (q ++ drop (at + s - at) (drop at out))
+
+  pub parts-next : ((k : ℕ) → length (g k) ≡ s) → (out q : List ℕ) (at x : ℕ) → PartsTill out at x → x < n → q ≡ g x
+      → length (grown out q at) ≡ length out → PartsTill (grown out q at) (at + s) (x + 1)
+  parts-next sized out q at x h l d k = (
+    omega arith,
+    omega (arith, h .1, suc-mul x s, ap (λ (y : ℕ). y * s) (add-one x)),
+    k ∙ h .2,
+    chunks-turn g s sized out₀ out q x at (h .3) (h .1) d,
+  )
+
+  pub parts-done : (out : List ℕ) (at x : ℕ) → PartsTill out at x → n ≤ x → length out₀ ≡ n * s → out ≡ chunks n g
+  parts-done out at x h l r =
+      let e : x ≡ n = omega (arith, h .0) in
+      chunks-full g out₀ out n x at (h .3) e (le-of-eq (r ∙ ap (λ (y : ℕ). y * s) (sym e) ∙ sym (h .1)))
+
+-- ---- a table by an operation, written up to row x
 
 module _ (op : ℕ → ℕ → ℕ) (e a b out₀ : List ℕ) where
+  abbrev row : ℕ → List ℕ
+  row x = rowBy op e (getD a x 0) b
+
   abbrev pub TableTill : List ℕ → ℕ → ℕ → Type 0
-  TableTill out at x =
-      (x ≤ length a) × (at ≡ x * 16) × (length out ≡ length out₀) × (out ≡ chunks x (λ i. rowBy op e (getD a i 0) b) ++ drop at out₀)
+  TableTill out at x = PartsTill row 16 (length a) out₀ out at x
 
-  -- the part that was lent came back as the row q
-  abbrev grown : List ℕ → List ℕ → ℕ → List ℕ
-  grown out q at = take at out ++ (q ++ drop (at + 16 - at) (drop at out))
-
-  pub table-next : (out q : List ℕ) (at x : ℕ) → TableTill out at x → x < length a → q ≡ rowBy op e (getD a x 0) b
-      → length (grown out q at) ≡ length out → TableTill (grown out q at) (at + 16) (x + 1)
-  table-next out q at x h l d k = (
-    omega arith,
-    omega (arith, h .1),
-    k ∙ h .2,
-    chunks-turn (λ i. rowBy op e (getD a i 0) b) 16 (λ i. length-row op e (getD a i 0) b) out₀ out q x at (h .3) (h .1) d,
-  )
+  pub table-next : (out q : List ℕ) (at x : ℕ) → TableTill out at x → x < length a → q ≡ row x
+      → length (grown row 16 (length a) out₀ out q at) ≡ length out → TableTill (grown row 16 (length a) out₀ out q at) (at + 16) (x + 1)
+  table-next = parts-next row 16 (length a) out₀ (λ x. length-row op e (getD a x 0) b)
 
   pub table-done : (out : List ℕ) (at x : ℕ) → TableTill out at x → length a ≤ x → length out₀ ≡ length a * 16 → out ≡ tableBy op e a b
   unfolding tableBy
-  table-done out at x h l r =
-      chunks-full (λ i. rowBy op e (getD a i 0) b) out₀ out (length a) x at (h .3) (omega (arith, h .0)) (omega (arith, h .0, h .1))
+  table-done = parts-done row 16 (length a) out₀
 
 pub length-table : (op : ℕ → ℕ → ℕ) (e a b : List ℕ) → length (tableBy op e a b) ≡ length a * 16
 unfolding tableBy

@@ -1,14 +1,15 @@
 -- `rounds::round_parts` meets its contract. The invariant: l rounds are written, and the rest is as it was.
-use mathlib.Core.Path.{_≡_, refl, _∙_}
-use mathlib.Core.List.{[], _++_}
-use Prim.Native.Nat.{_+_, _-_, _*_, _≤_, zero-le}
+use mathlib.Core.Path.{refl}
+use mathlib.Core.List.{[]}
+use Prim.Native.Nat.{_+_, _-_, zero-le}
 use native.Mathlib.Omega.{arith}
 use borrow.Rule.Slice.PartMut.{same-len-mid}
 use borrow.Author.Needs.{needs}
-use lib.ListN.{length, drop, getD}
+use lib.ListN.{getD}
 use Rattle.lists.specs.Tabulation.{chunks}
-use Rattle.lists.proofs.PartLaws.{chunks-turn, chunks-full, length-part}
+use Rattle.lists.proofs.PartLaws.{length-part}
 use Rattle.cipher.specs.KeySize.{rounds}
+use Rattle.table_maker.proofs.RowLaws.{PartsTill, parts-next, parts-done}
 use Rattle.cipher.specs.Chain.{roundCodings}
 use Rattle.cipher.specs.Book.{bookRound}
 use Rattle.cipher.proofs.KeySizeLaws.{rounds-le}
@@ -17,7 +18,7 @@ use Rattle.book.proofs.rounds.round_parts.Statement.{statement}
 use Rattle.book.proofs.rounds.round_parts.Tie as tie
 
 abbrev Inv-loop : tie.InvT-loop
-Inv-loop size chain out₀ rows r at₀ l₀ out at l = (l ≤ rounds size) × (at ≡ l * 18432) × (length out ≡ length out₀) × (out ≡ chunks l (bookRound (rounds size) rows chain) ++ drop at out₀)
+Inv-loop size chain out₀ rows r at₀ l₀ out at l = PartsTill (bookRound (rounds size) rows chain) 18432 (rounds size) out₀ out at l
 
 abbrev μ-loop : tie.MeasureT-loop
 μ-loop size chain out₀ rows r at₀ l₀ out at l = rounds size - l
@@ -66,26 +67,22 @@ loop-again c =
     let call = c .before .before in
     let s = call .before .before .before .before in
     let a = s .before .before .before .before .args in
-    let h = s .before .rounds .ensures in (
-      omega arith,
-      omega arith,
-      same-len-mid (s .loop .at) (s .loop .at + 18432 - s .loop .at) (s .loop .out) (call .round-at .last .1 .1 .1 .1 .0) (call .round-at .kept .1 .1 .1 .1 .0) ∙ s .loop .inv .2,
-      chunks-turn (bookRound (rounds (a .size)) (a .t3) (a .chain .now)) 18432 (λ l. round-size (roundCodings (rounds (a .size)) (a .chain .now) l) (getD (a .t3) l []))
-          _ _ _ _ _ (s .loop .inv .3) (s .loop .inv .1) (call .round-at .ensures),
-    )
-
-same-length : tie.Need-same-length Inv-loop μ-loop
-same-length c = c .before .loop .inv .2
+    let h = s .before .rounds .ensures in
+    let at = s .loop .at in
+    parts-next (bookRound (rounds (a .size)) (a .t3) (a .chain .now)) 18432 (rounds (a .size)) (a .out .now)
+    (λ l. round-size (roundCodings (rounds (a .size)) (a .chain .now) l) (getD (a .t3) l [])) (s .loop .out) _ at (s .loop .l) (s .loop .inv) (omega arith)
+    (call .round-at .ensures)
+    (same-len-mid at (at + 18432 - at) (s .loop .out) (call .round-at .last .1 .1 .1 .1 .0) (call .round-at .kept .1 .1 .1 .1 .0))
 
 returns : tie.Need-returns Inv-loop μ-loop
 returns c =
     let s = c .before in
+    let e = s .before .before .before .before in
     let h = s .before .rounds .ensures in
-    let e : s .loop .l ≡ rounds (s .before .before .before .before .args .size) = omega arith in
-    chunks-full _ _ _ _ (s .loop .l) (s .loop .at) (s .loop .inv .3) e (omega arith)
+    parts-done _ 18432 (rounds (e .args .size)) _ (s .loop .out) (s .loop .at) (s .loop .l) (s .loop .inv) (omega arith) (e .pre .1)
 
 pub round-parts-spec : {M : Type 1} → statement M
 round-parts-spec =
     tie.close
     (tie.spec Inv-loop μ-loop (λ c κs. search needs) loop-holds add-to (λ c. search needs) array-copy-out-round-at sub-round-at
-    (λ c. search needs) part-round-at-end round-at-requires (λ c. search needs) loop-less loop-again same-length returns)
+    (λ c. search needs) part-round-at-end round-at-requires (λ c. search needs) loop-less loop-again (λ c. c .before .loop .inv .2) returns)
