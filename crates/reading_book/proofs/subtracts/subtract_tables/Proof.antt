@@ -34,7 +34,8 @@ loop-again c =
     let s = call .before .before .before in
     let a = s .before .before .before .before .before .before .args in
     let at = s .loop .at in
-    parts-next (madeSubtract (a .m .now) (a .n .now) (a .after .now) (a .round .now) (a .k)) 512 24 (a .out .now) (length-subtract (a .m .now) (a .n .now) (a .after .now) (a .round .now) (a .k)) (s .loop .out) _ at (s .loop .p) (s .loop .inv)
+    parts-next (madeSubtract (a .m .now) (a .n .now) (a .after .now) (a .round .now) (a .k)) 512 24 (a .out .now)
+    (length-subtract (a .m .now) (a .n .now) (a .after .now) (a .round .now) (a .k)) (s .loop .out) _ at (s .loop .p) (s .loop .inv)
     (omega arith) (call .subtract-table .ensures) (same-len-mid at (at + 512 - at) (s .loop .out) (call .subtract-table .last .1 .1 .1 .1 .1 .1 .0) (call .subtract-table .kept .1 .1 .1 .1 .1 .1 .0))
 
 returns : tie.Need-returns Inv-loop μ-loop

@@ -34,7 +34,8 @@ loop-again c =
     let s = call .before .before .before in
     let a = s .before .before .before .before .before .args in
     let at = s .loop .at in
-    parts-next (madeFold (a .s .now) (a .u .now) (a .first .now) (a .k)) 256 32 (a .out .now) (length-fold (a .s .now) (a .u .now) (a .first .now) (a .k)) (s .loop .out) _ at (s .loop .p) (s .loop .inv)
+    parts-next (madeFold (a .s .now) (a .u .now) (a .first .now) (a .k)) 256 32 (a .out .now)
+    (length-fold (a .s .now) (a .u .now) (a .first .now) (a .k)) (s .loop .out) _ at (s .loop .p) (s .loop .inv)
     (omega arith) (call .fold-table .ensures) (same-len-mid at (at + 256 - at) (s .loop .out) (call .fold-table .last .1 .1 .1 .1 .1 .0) (call .fold-table .kept .1 .1 .1 .1 .1 .0))
 
 returns : tie.Need-returns Inv-loop μ-loop
