@@ -1,7 +1,8 @@
 -- Blocks written one after another over a buffer, as a loop goes: the first k are made by the rule f, the rest of d is as it was.
 use mathlib.Core.Path.{_≡_, refl, sym, ap, ap₂, _∙_}
 use mathlib.Core.List.{List, _++_, append-assoc}
-use Prim.Native.Nat.{ℕ, zero, suc, _+_, _*_, _≤_, _<_}
+use Prim.Native.Nat.{ℕ, zero, suc, _+_, _-_, _*_, _≤_, _<_}
+use native.Mathlib.Nat.{add-sub-cancel-left}
 use native.Mathlib.Omega.{arith}
 use lib.ListN.{length, getD, take, drop, length-append, length-drop, take-append-drop, List·getD-append}
 use lib.Seq.{ext-getD, getD-take, getD-drop, drop-at, drop-drop, length-take-le}
@@ -41,6 +42,16 @@ module _ (f : ℕ → List ℕ) (len : (k : ℕ) → length (f k) ≡ 16) (d : L
         let q : 16 * k + 16 ≡ 16 * (k + 1) = omega arith in
         put-more (chunks k f) d out y (16 * k) 16 (made-length k) e
         ∙ ap₂ (λ (a : List ℕ) (n : ℕ). a ++ drop n d) (ap (λ (b : List ℕ). chunks k f ++ b) w ∙ sym (chunks-more k f)) q
+
+    -- the same where the next block is lent, `&mut out[16k..16k + 16]`
+    pub made-part : take (16 * k + 16 - 16 * k) (drop (16 * k) out) ≡ blockOf d k
+    made-part = ap (λ (n : ℕ). take n (drop (16 * k) out)) (add-sub-cancel-left (16 * k) 16) ∙ made-next
+
+    pub made-lent : (y : List ℕ) → y ≡ f k → Made f d (k + 1) (take (16 * k) out ++ (y ++ drop (16 * k + 16 - 16 * k) (drop (16 * k) out)))
+    made-lent y w =
+        ap (λ (l : List ℕ). take (16 * k) out ++ (y ++ l)) (ap (λ (n : ℕ). drop n (drop (16 * k) out)) (add-sub-cancel-left (16 * k) 16) ∙ drop-drop 16 (16 * k) out)
+        ∙ sym (append-assoc (take (16 * k) out) y (drop (16 * k + 16) out))
+        ∙ made-more y w
 
     -- a block that was made
     pub made-block : 16 * k ≤ length d → (i : ℕ) → i < k → blockOf out i ≡ f i

@@ -7,7 +7,7 @@ use native.Mathlib.Omega.{arith}
 use lib.Dec.{lit<}
 use lib.ListN.{getD, length, take, drop, length-drop}
 use lib.Seq.{getD-drop}
-use Rattle.lists.specs.Blocks.{Block, Bytes}
+use Rattle.lists.specs.Blocks.{Block}
 use Rattle.lists.proofs.PartLaws.{part-end}
 use Rattle.lists.proofs.TabulationLaws.{length-tab, getD-tab}
 use Rattle.cipher.specs.Lengths.{addLength, addsLength, roundLength}
@@ -17,10 +17,9 @@ use Rattle.reading.specs.Lengths.{subtractsStart}
 use Rattle.reading.specs.Tables.{upperBack, lowerBack, subtractAt, turnedAt, borrowAt, differenceAt, halfRead, readRound}
 use Rattle.reading.proofs.ReadingRoundLaw.{read-lt}
 use Rattle.table_reader.specs.Reading.{TwoIs, byteOf, threeWords, turnHalf, turnByte}
-use Rattle.table_reader.proofs.ReadingLaws.{three, four}
+use Rattle.table_reader.proofs.ReadingLaws.{half-lo, half-hi, three, four}
 use Rattle.table_reader.proofs.Columns.{Columns, columns-first, three-columns, four-columns, three-full, four-full}
 use Rattle.table_reader.proofs.SumLaws.{two-sum, two-carry}
-use Rattle.table_reader.proofs.TurnLaws.{halves}
 use Rattle.reader.specs.Round.{EachIs, turnedBytes}
 use Rattle.reader.specs.declared.round.ByteOfEach.{ByteOfEach}
 
@@ -141,12 +140,12 @@ differences-first t b h = record {
   borrow3 = refl;
 }
 
-pub differences-next : (t b s y T : List ℕ) (m c1 c2 c3 : ℕ) (r : ByteOfEach) → m < 4 → Bytes b → s ≡ turnedBytes t b
-    → T ≡ take (length t - subtractsStart) (drop subtractsStart t) → Differences t b m y c1 c2 c3 → EachIs T s m (getD y (m + 12) 0) c1 c2 c3 r
-    → Differences t b (m + 1) (four y m (getD y (m + 12) 0) (r .word1) (r .word2) (r .word3)) (r .borrow1) (r .borrow2) (r .borrow3)
+pub differences-next : (t b s y T : List ℕ) (m x c1 c2 c3 : ℕ) (r : ByteOfEach) → m < 4 → s ≡ turnedBytes t b
+    → T ≡ take (length t - subtractsStart) (drop subtractsStart t) → Differences t b m y c1 c2 c3
+    → x ≡ getD y (m + 12) 0 % 16 + 16 * (getD y (m + 12) 0 / 16 % 16) → EachIs T s m x c1 c2 c3 r
+    → Differences t b (m + 1) (four y m x (r .word1) (r .word2) (r .word3)) (r .borrow1) (r .borrow2) (r .borrow3)
 unfolding halfRead
-differences-next t b s y T m c1 c2 c3 r hm hb es eT z is =
-    let x = getD y (m + 12) 0 in
+differences-next t b s y T m x c1 c2 c3 r hm es eT z ex is =
     let l1 = byte 0 m (lit< tt) (omega arith) in
     let l2 = byte 1 (m + 4) (lit< tt) (omega arith) in
     let l3 = byte 2 (m + 8) (lit< tt) (omega arith) in
@@ -169,10 +168,11 @@ differences-next t b s y T m c1 c2 c3 r hm hb es eT z is =
     byte : (i k : ℕ) → i < 3 → k ≡ 4 * i + m → getD s k 0 ≡ byteOf (turnedAt t b) i m
     byte i k hi e = ap (λ (l : List ℕ). getD l k 0) es ∙ turned-byte t b i m k hi hm e
 
-    old : getD y (m + 12) 0 ≡ byteOf (blockHalf b) 3 m
+    old : x ≡ byteOf (blockHalf b) 3 m
     old =
         let e : m + 12 ≡ 4 * 3 + m = omega arith in
-        ap (λ (k : ℕ). getD y k 0) e ∙ z .are .old 3 m (lit< tt) (omega arith) hm ∙ halves b hb 3 m
+        let q = ap (λ (k : ℕ). getD y k 0) e ∙ z .are .old 3 m (lit< tt) (omega arith) hm in
+        ex ∙ ap (λ (w : ℕ). w % 16 + 16 * (w / 16 % 16)) q ∙ rw (half-lo b 3 m, half-hi b 3 m)
 
 pub differences-full : (t b y : List ℕ) (m c1 c2 c3 : ℕ) → m ≡ 4 → Differences t b m y c1 c2 c3 → y ≡ readRound t b
 unfolding readRound

@@ -33,9 +33,8 @@ fn round_of(t: &[u8], n: usize, out: &mut [u8])
 {
     for k in 0..n {
         let at = lengths::BLOCK * k;
-        let mut y = block_at(out, at);
-        step(t, &mut y);
-        put_block(out, at, y);
+        let to = at + lengths::BLOCK;
+        step(t, &mut out[at..to]);
     }
 }
 

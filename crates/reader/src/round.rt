@@ -1,10 +1,10 @@
 // A block through a round of a reading book (document 02, 2026-01): three words turned back, then the new
 // words, each from the turned word and the new word before it.
 ghost use mathlib.Core.Path.{_≡_};
-ghost use Prim.Native.Nat.{_≤_, _<_};
+ghost use Prim.Native.Nat.{_+_, _*_, _/_, _%_, _≤_, _<_};
 ghost use lib.ListN.{length};
 ghost use Rattle.cipher.specs.Lengths.{addsLength, roundLength};
-ghost use Rattle.lists.specs.Blocks.{Block};
+ghost use Rattle.lists.specs.Blocks.{blockLength};
 ghost use Rattle.reading.specs.Tables.{readRound};
 ghost use Rattle.reader.specs.Round.{EachIs, turnedBytes};
 use reading::lengths;
@@ -12,15 +12,15 @@ use table_reader::sums::add_two;
 use table_reader::turns::turn_two;
 
 // The words 0 to 2 of a block turned back by the tables of a round, four bytes each.
-fn turned(t: &[u8], b: [u8; 16]) -> [u8; 12]
-    requires { ⌜ roundLength ≤ length (now t) ⌝ }
-    ensures { λ r. ⌜ r ≡ turnedBytes (now (t .entry)) b ⌝ }
+fn turned(t: &[u8], b: &[u8]) -> [u8; 12]
+    requires { ⌜ (roundLength ≤ length (now t)) × (length (now b) ≡ blockLength) ⌝ }
+    ensures { λ r. ⌜ r ≡ turnedBytes (now (t .entry)) (now (b .entry)) ⌝ }
 {
     let mut s = [0u8; 12];
     for m in 0..4 {
-        s[m] = turn_two(t, &b, 0, m, 3, 2);
-        s[m + 4] = turn_two(t, &b, 1, m, 7, 6);
-        s[m + 8] = turn_two(t, &b, 2, m, 0, 7);
+        s[m] = turn_two(t, b, 0, m, 3, 2);
+        s[m + 4] = turn_two(t, b, 1, m, 7, 6);
+        s[m + 8] = turn_two(t, b, 2, m, 0, 7);
     }
     s
 }
@@ -62,10 +62,17 @@ fn byte_of_each(
     }
 }
 
+// A byte, which is its two halves.
+fn whole(x: u8) -> u8
+    ensures { λ r. ⌜ r ≡ x % 16 + 16 * (x / 16 % 16) ⌝ }
+{
+    x
+}
+
 // The lent block taken through the round, s being its words turned back: new word 0 is the old word 3,
 // and the three differences go side by side, byte by byte, each with its borrow.
-fn subtracts(t: &[u8], s: &[u8; 12], y: &mut [u8; 16])
-    requires { ⌜ (roundLength ≤ length (now t)) × Block (now y) × (now s ≡ turnedBytes (now t) (now y)) ⌝ }
+fn subtracts(t: &[u8], s: &[u8; 12], y: &mut [u8])
+    requires { ⌜ (roundLength ≤ length (now t)) × (length (now y) ≡ blockLength) × (now s ≡ turnedBytes (now t) (now y)) ⌝ }
     ensures { λ _. ⌜ now (y .exit) ≡ readRound (now (t .entry)) (now (y .entry)) ⌝ }
 {
     let table = &t[lengths::SUBTRACTS..];
@@ -73,7 +80,7 @@ fn subtracts(t: &[u8], s: &[u8; 12], y: &mut [u8; 16])
     let mut c2 = 0usize;
     let mut c3 = 0usize;
     for m in 0..4 {
-        let x = y[m + 12];
+        let x = whole(y[m + 12]);
         let w = byte_of_each(table, s, m, x, c1, c2, c3);
         y[m + 12] = w.word3;
         y[m] = x;
@@ -86,10 +93,10 @@ fn subtracts(t: &[u8], s: &[u8; 12], y: &mut [u8; 16])
 }
 
 // The lent block taken through a round by the tables at the front of t.
-pub fn step(t: &[u8], y: &mut [u8; 16])
-    requires { ⌜ (roundLength ≤ length (now t)) × Block (now y) ⌝ }
+pub fn step(t: &[u8], y: &mut [u8])
+    requires { ⌜ (roundLength ≤ length (now t)) × (length (now y) ≡ blockLength) ⌝ }
     ensures { λ _. ⌜ now (y .exit) ≡ readRound (now (t .entry)) (now (y .entry)) ⌝ }
 {
-    let s = turned(t, *y);
+    let s = turned(t, y);
     subtracts(t, &s, y);
 }

@@ -56,7 +56,7 @@ module _ (r : ℕ) (rows : List (List ℕ)) (ch : List ℕ) where
 
   last-size : length (readingBookGroup r ch) ≡ groupLength
   unfolding readingBookGroup
-  last-size = group-size (chainSet ch r) (chainSet ch 0) (messageSet ch) zeros
+  last-size = group-size _ _ _ _
 
   pub reading-book-size : length (readingBookOf r rows ch) ≡ groupLength + roundLength * r
   unfolding readingBookOf all

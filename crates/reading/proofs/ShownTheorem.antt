@@ -11,7 +11,7 @@ use Rattle.cipher.specs.Schedule.{words4}
 use Rattle.cipher.specs.Lea.{bytes, undoneRounds}
 use Rattle.cipher.specs.Cbc.{cbcDeciphered}
 use Rattle.cipher.specs.Coding.{Set, decoded}
-use Rattle.cipher.specs.Tables.{foldHalf, tableFold}
+use Rattle.cipher.specs.Tables.{tableFold}
 use Rattle.cipher.specs.Chain.{messageSet, chainSet, roundCodings}
 use Rattle.cipher.specs.declared.size.KeySize.{KeySize}
 use Rattle.cipher.proofs.ScheduleLaws.{RowsOfWords}
@@ -27,8 +27,7 @@ use Rattle.reading.proofs.ReadingChainLaws.{valid-reading}
 -- what is read are blocks, whatever the book
 pub block-read : (bk : List ℕ) (r : ℕ) (x c : List ℕ) → Block (readBlock bk r x c)
 unfolding readBlock tableFold
-block-read bk r x c =
-    block-halves (foldHalf (readingGroupAt r bk) (readRounds (readingRoundAt bk) r c) x) (fold-lt (readingGroupAt r bk) (readRounds (readingRoundAt bk) r c) x)
+block-read bk r x c = block-halves _ (fold-lt _ _ _)
 
 pub blocks-read : (bk : List ℕ) (r : ℕ) (iv : List ℕ) (cs : List (List ℕ)) → Blocks (readBlocks bk r iv cs)
 unfolding eachAfter

@@ -20,9 +20,9 @@ loop-holds c = (omega arith, turned-first _ _ _ refl)
 loop-again : tie.Need-loop-again Inv-loop μ-loop
 unfolding three
 loop-again c =
-    let at-turn-two2 = c .before .before in
-    let at-turn-two = at-turn-two2 .before .before in
-    let l = at-turn-two .before .before .before in
+    let at-turn-two2 = c .before in
+    let at-turn-two = at-turn-two2 .before in
+    let l = at-turn-two .before .before in
     (omega arith, turned-step _ _ _ _ _ _ _ _ (omega arith) (l .loop .inv .1) (at-turn-two .turn-two .ensures) (at-turn-two2 .turn-two2 .ensures) (c .turn-two3 .ensures))
 
 returns : tie.Need-returns Inv-loop μ-loop
@@ -31,6 +31,5 @@ returns c = turned-full _ _ _ _ _ (omega arith) (c .before .loop .inv .1)
 pub turned-spec : {M : Type 1} → statement M
 turned-spec =
     tie.close
-    (tie.spec Inv-loop μ-loop loop-holds (λ c. search needs) (λ c κs. search needs) (λ c. search needs) (λ c. search needs) (λ c κs. search needs)
-    (λ c. search needs) (λ c. search needs) (λ c. search needs) (λ c κs. search needs) (λ c. search needs) (λ c. search needs)
-    (λ c. search needs) (λ c. search needs) loop-again returns)
+    (tie.spec Inv-loop μ-loop loop-holds (λ c κs. search needs) (λ c. search needs) (λ c κs. search needs) (λ c. search needs) (λ c. search needs)
+    (λ c κs. search needs) (λ c. search needs) (λ c. search needs) (λ c. search needs) (λ c. search needs) loop-again returns)
