@@ -25,7 +25,7 @@ impl Given {
         &self,
         room: usize,
         rattle: fn(&[u8], &[u8], &mut [u8]) -> u32,
-        rust: fn(&[u8], &[u8], &mut [u8]) -> Result<(), u32>,
+        rust: book::Build,
     ) -> Times {
         let (mut out, mut other) = (vec![0; room], vec![0; room]);
         let times = Times::of(

@@ -49,11 +49,7 @@ impl Given {
     }
 
     /// All of it sealed or read.
-    fn pass(
-        &self,
-        rattle: fn(&[u8], &[u8], &[u8], &mut [u8], &mut u64) -> u32,
-        rust: fn(&[u8], &[u8], &[u8], &mut [u8]) -> Result<usize, u32>,
-    ) -> Times {
+    fn pass(&self, rattle: bowlinette::Pass, rust: driver::Pass) -> Times {
         let (n, mut length) = (self.coded.len(), 0);
         let (mut out, mut other) = (vec![0; n], vec![0; n]);
         let given = || (hide(self.book.as_slice()), hide(self.coded.as_slice()));

@@ -421,6 +421,9 @@ pub fn run_rounds(book: &[u8], rounds: usize, block: &[u8], out: &mut [u8; 16]) 
     }
 }
 
+/// Sealing or reading.
+pub type Pass = fn(&[u8], &[u8], &[u8], &mut [u8], &mut u64) -> u32;
+
 /// A coded message sealed, to the front of out, and the length of that, into length.
 #[inline]
 pub fn seal(book: &[u8], iv: &[u8], coded: &[u8], out: &mut [u8], length: &mut u64) -> u32 {

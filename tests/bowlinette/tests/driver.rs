@@ -6,7 +6,8 @@ use reference::chain::{self, MIDDLES};
 use reference::driver::LONGEST;
 use reference::lea::{self, Block};
 use reference::Size;
-use shared::driver::{read, round, rounds, seal};
+use shared::books::Books;
+use shared::driver::{read, round, rounds, seal, Pass};
 use shared::{books, Random, FILL};
 
 /// The tables of round l of a book.
@@ -161,21 +162,21 @@ fn lengths_of_tables_and_blocks() {
 }
 
 /// Sealing or reading, which take whole blocks from an IV through a book of one of three lengths.
-struct Pass {
+struct Kind {
     name: &'static str,
-    books: fn(&mut Random) -> Vec<(Size, Vec<u8>)>,
+    books: fn(&mut Random) -> Books,
     lengths: [usize; 3],
-    run: fn(&[u8], &[u8], &[u8], usize) -> (u32, Vec<u8>),
+    run: Pass,
 }
 
-const PASSES: [Pass; 2] = [
-    Pass {
+const KINDS: [Kind; 2] = [
+    Kind {
         name: "seal",
         books: books::any,
         lengths: [466_960, 540_688, 614_416],
         run: seal,
     },
-    Pass {
+    Kind {
         name: "read",
         books: books::any_reading,
         lengths: [450_560, 524_288, 598_016],
@@ -184,7 +185,7 @@ const PASSES: [Pass; 2] = [
 ];
 
 /// So many blocks in buffers of several lengths.
-fn passed(Pass { name, run, .. }: &Pass, book: &[u8], blocks: usize, random: &mut Random) {
+fn passed(Kind { name, run, .. }: &Kind, book: &[u8], blocks: usize, random: &mut Random) {
     let (n, iv) = (16 * blocks, random.bytes(16));
     let text = random.bytes(n);
     let lent = (iv.clone(), text.clone());
@@ -205,14 +206,14 @@ fn passed(Pass { name, run, .. }: &Pass, book: &[u8], blocks: usize, random: &mu
 #[test]
 fn sealed_and_read_messages() {
     let mut random = Random(76);
-    for pass in &PASSES {
-        for (size, book) in (pass.books)(&mut random) {
+    for kind in &KINDS {
+        for (size, book) in (kind.books)(&mut random) {
             let before = book.clone();
             let some: Vec<usize> = (0..6).map(|_| 1 + random.below(256)).collect();
             for blocks in (1..=20).chain(some).chain([589]) {
-                passed(pass, &book, blocks, &mut random);
+                passed(kind, &book, blocks, &mut random);
             }
-            assert!(book == before, "{size:?}, {}, the book", pass.name);
+            assert!(book == before, "{size:?}, {}, the book", kind.name);
         }
     }
 }
@@ -221,8 +222,8 @@ fn sealed_and_read_messages() {
 fn the_longest_messages() {
     let mut random = Random(77);
     let (text, iv) = (random.bytes(LONGEST + 16), random.bytes(16));
-    for pass in &PASSES {
-        for (size, book) in (pass.books)(&mut random) {
+    for kind in &KINDS {
+        for (size, book) in (kind.books)(&mut random) {
             for (n, room, due) in [
                 (LONGEST, LONGEST, 0),
                 (LONGEST, LONGEST + 5, 0),
@@ -231,19 +232,19 @@ fn the_longest_messages() {
                 (LONGEST + 1, LONGEST + 16, 8),
                 (LONGEST - 1, LONGEST, 8),
             ] {
-                let number = (pass.run)(&book, &iv, &text[..n], room).0;
-                assert_eq!(number, due, "{size:?}, {}, {n}", pass.name);
+                let number = (kind.run)(&book, &iv, &text[..n], room).0;
+                assert_eq!(number, due, "{size:?}, {}, {n}", kind.name);
             }
         }
     }
 }
 
 /// All reasons at once and every part of them: the lowest number.
-fn refused(pass: &Pass, random: &mut Random) {
+fn refused(kind: &Kind, random: &mut Random) {
     let (bytes, iv) = (random.bytes(700_000), random.bytes(32));
     let text = random.bytes(LONGEST + 16);
-    let others = PASSES.iter().flat_map(|other| other.lengths);
-    let near = pass.lengths.into_iter().flat_map(|n| [n - 1, n + 1]);
+    let others = KINDS.iter().flat_map(|other| other.lengths);
+    let near = kind.lengths.into_iter().flat_map(|n| [n - 1, n + 1]);
     for n in others.chain(near).chain([0]) {
         for v in [16, 0, 15, 17, 32] {
             for m in [
@@ -261,13 +262,13 @@ fn refused(pass: &Pass, random: &mut Random) {
                 for room in [m, 0, m.saturating_sub(1), m + 1] {
                     let length = m == 0 || m > 1_048_576 || m % 16 != 0;
                     let reasons = [
-                        (6, !pass.lengths.contains(&n)),
+                        (6, !kind.lengths.contains(&n)),
                         (7, v != 16),
                         (8, length),
                         (9, room < m),
                     ];
-                    let (number, _) = (pass.run)(&bytes[..n], &iv[..v], &text[..m], room);
-                    let given = (pass.name, n, v, m, room);
+                    let (number, _) = (kind.run)(&bytes[..n], &iv[..v], &text[..m], room);
+                    let given = (kind.name, n, v, m, room);
                     assert_eq!(number, first(&reasons), "{given:?}");
                 }
             }
@@ -277,12 +278,12 @@ fn refused(pass: &Pass, random: &mut Random) {
 
 #[test]
 fn refusals_of_sealing() {
-    refused(&PASSES[0], &mut Random(78));
+    refused(&KINDS[0], &mut Random(78));
 }
 
 #[test]
 fn refusals_of_reading() {
-    refused(&PASSES[1], &mut Random(80));
+    refused(&KINDS[1], &mut Random(80));
 }
 
 /// A message coded for sealing and sealed, decoded by the last set: CBC, and under it the message

@@ -37,13 +37,16 @@ pub fn check_reading_chain(key: usize, chain: &[u8]) -> u32 {
     checked("reading chain", (key, chain), proved, chain::check_reading)
 }
 
+/// Building on both versions.
+pub type Build = fn(&[u8], &[u8], usize) -> (u32, Vec<u8>);
+
 /// What both versions of a builder make of a key and a chain in a buffer of a length: the number, and
 /// the buffer.
 fn built(
     name: &str,
     (key, chain, room): (&[u8], &[u8], usize),
     proved: fn(&[u8], &[u8], &mut [u8]) -> u32,
-    reference: fn(&[u8], &[u8], &mut [u8]) -> Result<(), u32>,
+    reference: book::Build,
 ) -> (u32, Vec<u8>) {
     let (told, left) = both(
         (name, key.len(), chain.len(), room),

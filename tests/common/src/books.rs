@@ -45,24 +45,24 @@ impl Built {
     }
 }
 
+/// Books, each with its size.
+pub type Books = Vec<(Size, Vec<u8>)>;
+
 /// Two books of each size.
-fn two_each(
-    random: &mut Random,
-    two: impl Fn(Size, &mut Random) -> [Vec<u8>; 2],
-) -> Vec<(Size, Vec<u8>)> {
+fn two_each(random: &mut Random, two: impl Fn(Size, &mut Random) -> [Vec<u8>; 2]) -> Books {
     let each = |size| two(size, random).map(|book| (size, book));
     Size::ALL.into_iter().flat_map(each).collect()
 }
 
 /// A book, and bytes of a book's length, of each size.
-pub fn any(random: &mut Random) -> Vec<(Size, Vec<u8>)> {
+pub fn any(random: &mut Random) -> Books {
     two_each(random, |size, random| {
         [built(size, random).book, random.bytes(size.book_bytes())]
     })
 }
 
 /// A reading book, and bytes of a reading book's length, of each size.
-pub fn any_reading(random: &mut Random) -> Vec<(Size, Vec<u8>)> {
+pub fn any_reading(random: &mut Random) -> Books {
     two_each(random, |size, random| {
         let book = built(size, random).reading(random).book;
         [book, random.bytes(size.reading_bytes())]

@@ -20,13 +20,16 @@ pub fn round(tables: &[u8], block: &[u8]) -> Result<Block, u32> {
     told
 }
 
+/// Sealing or reading on both versions.
+pub type Pass = fn(&[u8], &[u8], &[u8], usize) -> (u32, Vec<u8>);
+
 /// What both versions of sealing or of reading make of a book, an IV and whole blocks in a buffer of a
 /// length: the number, and the buffer.
 fn passed(
     name: &str,
     (book, iv, text, room): (&[u8], &[u8], &[u8], usize),
-    proved: fn(&[u8], &[u8], &[u8], &mut [u8], &mut u64) -> u32,
-    reference: fn(&[u8], &[u8], &[u8], &mut [u8]) -> Result<usize, u32>,
+    proved: bowlinette::Pass,
+    reference: driver::Pass,
 ) -> (u32, Vec<u8>) {
     let (told, left) = both(
         (name, book.len(), iv.len(), text.len(), room),

@@ -13,6 +13,9 @@ pub const ADD: usize = 512;
 pub const TURN: usize = 256;
 pub const ROUND: usize = MIDDLES * (ADD + TURN);
 
+/// Building: from a key and a chain to the front of an output.
+pub type Build = fn(&[u8], &[u8], &mut [u8]) -> Result<(), u32>;
+
 /// Half byte j of new word i is made of the half bytes j + high and j + low, mod 8, of sum i.
 pub const TURNED: [(usize, usize); 3] = [(6, 5), (2, 1), (1, 0)];
 

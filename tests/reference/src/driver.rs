@@ -10,6 +10,9 @@ use crate::Size;
 /// The half bytes of a block: half byte j of word w at 8w + j.
 pub type Halves = [u8; 32];
 
+/// Sealing or reading: from a book, an IV and whole blocks to the front of an output.
+pub type Pass = fn(&[u8], &[u8], &[u8], &mut [u8]) -> Result<usize, u32>;
+
 /// The longest coded message.
 pub const LONGEST: usize = 1_048_576;
 /// How many block calls a session takes.

@@ -11,9 +11,9 @@ use crate::{refusal, Size};
 pub const SUBTRACT: usize = 512;
 pub const ROUND: usize = MIDDLES * (TURN + SUBTRACT);
 
-/// Half byte j of word i turned back, by 9 to the right, 5 or 3 to the left, is made of its half bytes
-/// j + high and j + low, mod 8: of u and v, (8u + v/2) mod 16 by a factor of 8, (2u + v/8) mod 16 by 2.
+/// Half byte j of word i turned back is made of the half bytes j + high and j + low, mod 8, of the word.
 const TURNED: [(usize, usize); 3] = [(3, 2), (7, 6), (0, 7)];
+/// Of these, u and v, it is (8u + v/2) mod 16 where the factor is 8, and (2u + v/8) mod 16 where it is 2.
 const FACTORS: [u8; 3] = [8, 2, 8];
 
 /// What the tables of reading round l are made of: what the tables of a book's round are, with key row

@@ -7,11 +7,11 @@ use reference::book::ROUND;
 use reference::chain::{self, decode_all};
 use shared::archive::{check, open};
 use shared::book::{
-    build, build_reading, build_round, check_chain, check_reading_chain, check_set,
+    build, build_reading, build_round, check_chain, check_reading_chain, check_set, Build,
 };
 use shared::books::Built;
 use shared::cmac::cmac;
-use shared::driver::{read, round, rounds, seal};
+use shared::driver::{read, round, rounds, seal, Pass};
 use shared::pad::{code, due, padded, Use};
 use shared::roundtrip;
 use shared::session::{tag, Both, Call};
@@ -148,13 +148,7 @@ impl Round<'_> {
     }
 
     /// A book, an IV and blocks given to sealing or reading, with a buffer that may be short.
-    fn pass(
-        &mut self,
-        name: &str,
-        call: fn(&[u8], &[u8], &[u8], usize) -> (u32, Vec<u8>),
-        given: [Vec<u8>; 3],
-        short: bool,
-    ) {
+    fn pass(&mut self, name: &str, call: Pass, given: [Vec<u8>; 3], short: bool) {
         let before = given.clone();
         let [book, iv, text] = &given;
         let room = self.given.room(text.len(), short);
@@ -210,7 +204,7 @@ impl Round<'_> {
     fn whole_book(
         &mut self,
         name: &str,
-        call: fn(&[u8], &[u8], usize) -> (u32, Vec<u8>),
+        call: Build,
         (key, chain): (Vec<u8>, Vec<u8>),
         short: bool,
         own: for<'b> fn(&'b Given) -> &'b Built,
