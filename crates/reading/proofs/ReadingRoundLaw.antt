@@ -119,7 +119,7 @@ module _ (c : RoundCodings) (v : ValidReadingRound c) (k t : List ℕ) (hk : Bel
           (borrowAt t b i x) (unfold borrowAt in refl) (λ j. unfold borrowAt in refl)
 
       -- a half byte of new word i + 1, decoded
-      difference-decoded : (j : ℕ) → j < 8
+      pub difference-decoded : (j : ℕ) → j < 8
           → decode (c .after (suc i) j) (differenceAt t b i x j) ≡ halfByte (unkeyed (backTurn i (opened i)) n (getD k (2 * i) 0) (getD k (2 * i + 1) 0)) j
       unfolding unkeyed taken whole xor
       difference-decoded j hj =

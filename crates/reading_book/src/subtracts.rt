@@ -33,19 +33,17 @@ fn keyed_difference(s: usize, l: u8) -> usize
     s % lengths::VALUES ^ wide(COMPLEMENT ^ l)
 }
 
-// The entries of the sums 0 to 31 at place p: after begins with the set after the round, l is the key
-// half byte of the difference.
-fn difference_entries(after: &[u8], round: &[u8], l: u8, p: usize) -> [u8; 32]
-    requires { ⌜ (p < 24) × (l < 16) × (setLength ≤ length (now after)) × LowSet (now after) × RoundBytes (now round) ⌝ }
-    ensures { λ r. ⌜ r ≡ tab 32 (differenceEntries (now (after .entry)) (now (round .entry)) l p) ⌝ }
+// The entries of the sums 0 to 31 at place p, into e: after begins with the set after the round, l is the
+// key half byte of the difference.
+fn difference_entries(after: &[u8], round: &[u8], l: u8, p: usize, e: &mut [u8])
+    requires { ⌜ (p < 24) × (l < 16) × (setLength ≤ length (now after)) × LowSet (now after) × RoundBytes (now round) × (length (now e) ≡ 32) ⌝ }
+    ensures { λ _. ⌜ now (e .exit) ≡ tab 32 (differenceEntries (now (after .entry)) (now (round .entry)) l p) ⌝ }
 {
-    let mut e = [0u8; 32];
     for s in 0..2 * lengths::VALUES {
         let c = carry_out(round, p, s / lengths::VALUES);
         let d = keyed_difference(s, l);
         e[s] = entry(after[lengths::CODING * (p + lengths::HALVES) + d], c);
     }
-    e
 }
 
 // Subtract table p of a round: m has its middle codings inverted, n the words 0 to 2 of the set after it,
@@ -67,7 +65,8 @@ fn subtract_table(
     let at = lengths::CODING * p;
     let a = row_summands(m, at, COMPLEMENT, mask_in(round, p));
     let b = keyed(n, at, half(k[2 * i], j));
-    let e = difference_entries(after, round, half(k[2 * i + 1], j), p);
+    let mut e = [0u8; 2 * lengths::VALUES];
+    difference_entries(after, round, half(k[2 * i + 1], j), p, &mut e);
     sum_table(&e, &a, &b, out);
 }
 
