@@ -1,3 +1,4 @@
+pub mod EntryPairs
 pub mod ReadingTableMade
 pub mod ReadingWhole
 pub mod ReadingChainRefusals

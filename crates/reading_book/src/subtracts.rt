@@ -34,15 +34,18 @@ fn keyed_difference(s: usize, l: u8) -> usize
 }
 
 // The entries of the sums 0 to 31 at place p, into e: after begins with the set after the round, l is the
-// key half byte of the difference.
+// key half byte of the difference. Sums that differ by 16 differ in the carry alone.
 fn difference_entries(after: &[u8], round: &[u8], l: u8, p: usize, e: &mut [u8])
     requires { ⌜ (p < 24) × (l < 16) × (setLength ≤ length (now after)) × LowSet (now after) × RoundBytes (now round) × (length (now e) ≡ 32) ⌝ }
     ensures { λ _. ⌜ now (e .exit) ≡ tab 32 (differenceEntries (now (after .entry)) (now (round .entry)) l p) ⌝ }
 {
-    for s in 0..2 * lengths::VALUES {
-        let c = carry_out(round, p, s / lengths::VALUES);
-        let d = keyed_difference(s, l);
-        e[s] = entry(after[lengths::CODING * (p + lengths::HALVES) + d], c);
+    let none = carry_out(round, p, 0);
+    let one = carry_out(round, p, 1);
+    let at = lengths::CODING * (p + lengths::HALVES);
+    for s in 0..lengths::VALUES {
+        let g = after[at + keyed_difference(s, l)];
+        e[s] = entry(g, none);
+        e[s + lengths::VALUES] = entry(g, one);
     }
 }
 
