@@ -1,6 +1,6 @@
--- What reading tables are for (document 02, 2026-01, its last sentence): a reading book that is built from the sealing key and a valid
--- reading chain, whose set 0 is the sealing chain's last set, shows, opened by its own U, the blocks that the archive has before it
--- looks at padding.
+-- What reading tables are for (document 02, 2026-01, its last sentence): the screen agrees with the archive. A reading book that is built
+-- with the archive's key, from a reading chain whose set 0 is the archive's set, gives, decoded by the chain's U, the text that opening
+-- has before it tests the padding.
 use mathlib.Core.Bool.{false}
 use mathlib.Core.Path.{_≡_}
 use mathlib.Core.List.{List, map}
@@ -40,8 +40,8 @@ firstSet ch = take setLength (drop setLength ch)
 abbrev pub shownOf : List ℕ → List ℕ → List ℕ → List ℕ → List ℕ
 shownOf key bk iv sealed = readText bk (keyRounds key) iv sealed
 
--- reading gives no other refusal than 9 and writes as many bytes as are sealed. They are, opened by the chain's U, what the archive has
--- before it looks at padding, where it gets the set s: as a text, and block by block
+-- reading gives no other refusal than 9 and writes as many bytes as are sealed. Decoded by the chain's U they are what the archive, which
+-- gets the set s, has before it tests the padding: as a text, and block by block
 pub record LikeOpened (key ch s bk iv sealed : List ℕ) : Type 0 where
   pub reading : Writes (readAnswer bk iv sealed) (length sealed) (shownOf key bk iv sealed)
   pub size : length (shownOf key bk iv sealed) ≡ length sealed

@@ -1,5 +1,5 @@
--- The reading book that rows of round keys and a reading chain make, and where each part of it stands (document 02, 2026-01: "the rounds,
--- turn tables first, then this group"; "rounds run from the last key row to the first"). All is said of any rows and any number r
+-- The reading book that rows of round keys and a reading chain make, and where each part of it stands (document 02, 2026-01, its sentences
+-- on the order of the rounds, on the last group of folds, and on the book's parts and length). All is said of any rows and any number r
 -- of rounds.
 use mathlib.Core.Path.{_≡_}
 use mathlib.Core.List.{List, [], _++_}

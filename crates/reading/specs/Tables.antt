@@ -12,8 +12,7 @@ use Rattle.cipher.specs.Coding.{SameWord, decode, blockHalf, ofHalves}
 use Rattle.cipher.specs.Tables.{carryHeld, RoundCodings, ValidCodings}
 use Rattle.reading.specs.Lengths.{subtractLength, subtractsStart}
 
--- ---- an entry of a single table (02: "ROR9, ROL5, ROL3 of word i"; "It takes that word xor RK[2i] from the turned word, xors the difference
--- with RK[2i+1]")
+-- ---- an entry of a single table (02's sentences on turn tables, on what a subtract table takes from what, and on borrows)
 
 -- a turn back, ROR9, ROL5 or ROL3 for i = 0, 1, 2: two neighbouring half bytes u, v of word i make one of the turned word
 abbrev pub turnedBack : ℕ → ℕ → ℕ → ℕ
