@@ -1,3 +1,4 @@
+pub mod TurnLaws
 pub mod RoundLaws
 pub mod BlockLoops
 pub mod AnswerLaws

@@ -1,5 +1,5 @@
--- A reading round made byte by byte, the words side by side: what the loops have after m bytes of each, and that at the end it is the
--- round.
+-- The differences of a reading round made byte by byte, the words side by side: what the loop has after m bytes of each, and that at the end
+-- it is the round.
 use mathlib.Core.Path.{_≡_, refl, ap, _∙_}
 use mathlib.Core.List.{List}
 use Prim.Native.Nat.{ℕ, zero, suc, _+_, _-_, _*_, _/_, _%_, _≤_, _<_}
@@ -14,50 +14,14 @@ use Rattle.cipher.specs.Lengths.{addLength, addsLength, roundLength}
 use Rattle.cipher.specs.Coding.{blockHalf}
 use Rattle.cipher.proofs.CodingLaws.{block-halves}
 use Rattle.reading.specs.Lengths.{subtractsStart}
-use Rattle.reading.specs.Tables.{upperBack, lowerBack, subtractAt, turnedAt, borrowAt, differenceAt, halfRead, readRound}
+use Rattle.reading.specs.Tables.{subtractAt, turnedAt, borrowAt, differenceAt, halfRead, readRound}
 use Rattle.reading.proofs.ReadingRoundLaw.{read-lt}
-use Rattle.table_reader.specs.Reading.{TwoIs, byteOf, threeWords, turnHalf, turnByte}
-use Rattle.table_reader.proofs.ReadingLaws.{half-lo, half-hi, three, four}
-use Rattle.table_reader.proofs.Columns.{Columns, columns-first, three-columns, four-columns, three-full, four-full}
+use Rattle.table_reader.specs.Reading.{TwoIs, byteOf, threeWords}
+use Rattle.table_reader.proofs.ReadingLaws.{half-lo, half-hi, four}
+use Rattle.table_reader.proofs.Columns.{Columns, columns-first, four-columns, four-full}
 use Rattle.table_reader.proofs.SumLaws.{two-sum, two-carry}
 use Rattle.reader.specs.Round.{EachIs, turnedBytes}
 use Rattle.reader.specs.declared.round.ByteOfEach.{ByteOfEach}
-
--- ---- the words turned back
-
-module _ (t b : List ℕ) where
-  back-half : (i j u v : ℕ) → upperBack i j ≡ (j + u) % 8 → lowerBack i j ≡ (j + v) % 8 → turnHalf t b i j u v ≡ turnedAt t b i j
-  unfolding turnHalf turnedAt
-  back-half i j u v e f = rw (e, f)
-
-  back-byte : (i m u v : ℕ) → m < 4 → ((j : ℕ) → j < 8 → upperBack i j ≡ (j + u) % 8) → ((j : ℕ) → j < 8 → lowerBack i j ≡ (j + v) % 8)
-      → turnByte t b i m u v ≡ byteOf (turnedAt t b) i m
-  unfolding turnByte
-  back-byte i m u v hm e f =
-      rw (
-        back-half i (2 * m) u v (e (2 * m) (omega arith)) (f (2 * m) (omega arith)),
-        back-half i (2 * m + 1) u v (e (2 * m + 1) (omega arith)) (f (2 * m + 1) (omega arith)),
-      )
-
-  -- the first m bytes of each word are turned, in place of those of s₀
-  abbrev pub TurnedAre : List ℕ → ℕ → List ℕ → Type 0
-  TurnedAre s₀ m s = Columns 3 (byteOf (turnedAt t b)) s₀ m s
-
-  pub turned-first : (s : List ℕ) → length s ≡ 12 → TurnedAre s 0 s
-  turned-first s h = columns-first 3 (byteOf (turnedAt t b)) s h
-
-  pub turned-step : (s₀ s : List ℕ) (m u v w : ℕ) → m < 4 → TurnedAre s₀ m s → u ≡ turnByte t b 0 m 3 2 → v ≡ turnByte t b 1 m 7 6
-      → w ≡ turnByte t b 2 m 0 7 → TurnedAre s₀ (m + 1) (three s m u v w)
-  turned-step s₀ s m u v w hm c eu ev ew =
-      three-columns (byteOf (turnedAt t b)) s₀ s m u v w hm c
-      (eu ∙ back-byte 0 m 3 2 hm (λ j h. refl) (λ j h. refl))
-      (ev ∙ back-byte 1 m 7 6 hm (λ j h. refl) (λ j h. refl))
-      (ew ∙ back-byte 2 m 0 7 hm (λ j h. omega arith) (λ j h. refl))
-
-  pub turned-full : (s₀ s : List ℕ) (m : ℕ) → m ≡ 4 → TurnedAre s₀ m s → s ≡ turnedBytes t b
-  turned-full s₀ s m e c = three-full (turnedAt t b) s₀ s m e c
-
--- ---- the differences
 
 module _ (t b : List ℕ) where
   -- half bytes, and byte m of a turned word as it stands in s

@@ -1,10 +1,23 @@
 -- A reading round byte by byte: the inner functions' own words for the definitions of `Rattle.reading.specs.Tables`.
 use mathlib.Core.List.{List}
-use Prim.Native.Nat.{ℕ, _+_, _*_}
+use Prim.Native.Nat.{ℕ, _+_, _*_, _%_}
 use lib.ListN.{getD}
+use Rattle.cipher.specs.Lengths.{turnLength}
+use Rattle.cipher.specs.Coding.{blockHalf}
 use Rattle.reading.specs.Tables.{turnedAt}
 use Rattle.table_reader.specs.Reading.{TwoIs, threeWords}
 use Rattle.reader.specs.declared.round.ByteOfEach.{ByteOfEach}
+
+-- half bytes j and j + 1, mod 8, of word i of a block b as one byte, the first one low
+abbrev pub pairOf : List ℕ → ℕ → ℕ → ℕ
+pairOf b i j = blockHalf b i (j % 8) + 16 * blockHalf b i ((j + 1) % 8)
+
+-- half byte j of word i turned by the turn tables in t from the half bytes j + v and j + v + 1, and byte m
+unfoldable pub turnedHalf : List ℕ → List ℕ → ℕ → ℕ → ℕ → ℕ
+turnedHalf t b i j v = getD t (turnLength * (8 * i + j) + pairOf b i (j + v)) 0 % 16
+
+unfoldable pub turnedByte : List ℕ → List ℕ → ℕ → ℕ → ℕ → ℕ
+turnedByte t b i m v = turnedHalf t b i (2 * m) v + 16 * turnedHalf t b i (2 * m + 1) v
 
 -- the words 0 to 2 of a block b turned back by the tables in t
 abbrev pub turnedBytes : List ℕ → List ℕ → List ℕ

@@ -3,3 +3,4 @@
 mod blocks; // blocks.rt: all blocks of a buffer through the rounds, and the folds
 pub mod read; // read.rt: the operation
 mod round; // round.rt: one block through one round
+mod turns; // turns.rt: the words of a block turned back

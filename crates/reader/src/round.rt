@@ -7,23 +7,10 @@ ghost use Rattle.cipher.specs.Lengths.{addsLength, roundLength};
 ghost use Rattle.lists.specs.Blocks.{blockLength};
 ghost use Rattle.reading.specs.Tables.{readRound};
 ghost use Rattle.reader.specs.Round.{EachIs, turnedBytes};
+use crate::turns::turned;
 use reading::lengths;
+use table_reader::entry::joined;
 use table_reader::sums::add_two;
-use table_reader::turns::turn_two;
-
-// The words 0 to 2 of a block turned back by the tables of a round, four bytes each.
-fn turned(t: &[u8], b: &[u8]) -> [u8; 12]
-    requires { ⌜ (roundLength ≤ length (now t)) × (length (now b) ≡ blockLength) ⌝ }
-    ensures { λ r. ⌜ r ≡ turnedBytes (now (t .entry)) (now (b .entry)) ⌝ }
-{
-    let mut s = [0u8; 12];
-    for m in 0..4 {
-        s[m] = turn_two(t, b, 0, m, 3, 2);
-        s[m + 4] = turn_two(t, b, 1, m, 7, 6);
-        s[m + 8] = turn_two(t, b, 2, m, 0, 7);
-    }
-    s
-}
 
 // Byte m of the new words 1 to 3, and the borrow out of each.
 pub struct ByteOfEach {
@@ -62,13 +49,6 @@ fn byte_of_each(
     }
 }
 
-// A byte, which is its two halves.
-fn whole(x: u8) -> u8
-    ensures { λ r. ⌜ r ≡ x % 16 + 16 * (x / 16 % 16) ⌝ }
-{
-    x
-}
-
 // The lent block taken through the round, s being its words turned back: new word 0 is the old word 3,
 // and the three differences go side by side, byte by byte, each with its borrow.
 fn subtracts(t: &[u8], s: &[u8; 12], y: &mut [u8])
@@ -80,7 +60,8 @@ fn subtracts(t: &[u8], s: &[u8; 12], y: &mut [u8])
     let mut c2 = 0usize;
     let mut c3 = 0usize;
     for m in 0..4 {
-        let x = whole(y[m + 12]);
+        let o = y[m + 12];
+        let x = joined(o, o / 16);
         let w = byte_of_each(table, s, m, x, c1, c2, c3);
         y[m + 12] = w.word3;
         y[m] = x;

@@ -1,15 +1,12 @@
 -- The new words of a round made byte by byte, all four side by side: that at the end it is the round.
 use mathlib.Core.Path.{_≡_, refl, sym, ap, _∙_}
 use mathlib.Core.List.{List}
-use Prim.Native.Nat.{ℕ, _+_, _-_, _*_, _%_, _<_}
+use Prim.Native.Nat.{ℕ, _+_, _*_, _%_, _<_}
 use native.Mathlib.Nat.{zero-add}
 use native.Mathlib.Omega.{arith}
 use lib.Dec.{lit<}
-use lib.ListN.{getD, length, take, drop}
-use lib.Seq.{getD-drop}
+use lib.ListN.{getD, length}
 use Rattle.lists.specs.Blocks.{Bytes}
-use Rattle.lists.proofs.PartLaws.{part-end}
-use Rattle.cipher.specs.Lengths.{addsLength, turnLength}
 use Rattle.cipher.specs.Coding.{blockHalf}
 use Rattle.cipher.specs.Tables.{upper, lower, sumAt, newAt, halfAfter, tableRound}
 use Rattle.table_reader.specs.Reading.{byteOf, sumBytes, turnHalf, turnByte}
@@ -26,15 +23,13 @@ halves b hb w k =
 -- the half bytes that the turn tables give
 module _ (t b : List ℕ) where
   turn-half : (i j u v : ℕ) → i < 3 → j < 8 → upper i j ≡ (j + u) % 8 → lower i j ≡ (j + v) % 8
-      → turnHalf (drop addsLength t) (sumBytes t b) i j u v ≡ newAt t b i j
+      → turnHalf t (sumBytes t b) i j u v ≡ newAt t b i j
   unfolding turnHalf newAt
   turn-half i j u v hi hj e f =
       rw (e, f, three-half (sumAt t b) (sum-lt t b) i ((j + u) % 8) hi (omega arith), three-half (sumAt t b) (sum-lt t b) i ((j + v) % 8) hi (omega arith))
-      (ap (λ (x : ℕ). x % 16) (getD-drop addsLength t (turnLength * (8 * i + j) + (16 * sumAt t b i ((j + u) % 8) + sumAt t b i ((j + v) % 8))) 0
-      ∙ ap (λ (n : ℕ). getD t n 0) (omega arith)))
 
   turn-byte : (i m u v : ℕ) → i < 3 → m < 4 → ((j : ℕ) → j < 8 → upper i j ≡ (j + u) % 8) → ((j : ℕ) → j < 8 → lower i j ≡ (j + v) % 8)
-      → turnByte (drop addsLength t) (sumBytes t b) i m u v ≡ byteOf (newAt t b) i m
+      → turnByte t (sumBytes t b) i m u v ≡ byteOf (newAt t b) i m
   unfolding turnByte
   turn-byte i m u v hi hm e f =
       rw (
@@ -49,17 +44,15 @@ TurnsAre t x m y = Columns 4 (byteOf (halfAfter t x)) x m y
 pub turns-first : (t x : List ℕ) → length x ≡ 16 → TurnsAre t x 0 x
 turns-first t x h = columns-first 4 (byteOf (halfAfter t x)) x h
 
--- T is where the turn tables stand, as they are lent
-pub turns-step : (t s x y T : List ℕ) (m u v w : ℕ) → m < 4 → Bytes x → s ≡ sumBytes t x → T ≡ take (length t - addsLength) (drop addsLength t) → TurnsAre t x m y
-    → u ≡ turnByte T s 0 m 6 5 → v ≡ turnByte T s 1 m 2 1 → w ≡ turnByte T s 2 m 1 0
+pub turns-step : (t s x y : List ℕ) (m u v w : ℕ) → m < 4 → Bytes x → s ≡ sumBytes t x → TurnsAre t x m y
+    → u ≡ turnByte t s 0 m 6 5 → v ≡ turnByte t s 1 m 2 1 → w ≡ turnByte t s 2 m 1 0
     → TurnsAre t x (m + 1) (four y m u v w (getD y m 0))
 unfolding halfAfter
-turns-step t s x y T m u v w hm hx es eT c eu ev ew =
-    let same : T ≡ drop addsLength t = eT ∙ part-end t addsLength in
+turns-step t s x y m u v w hm hx es c eu ev ew =
     four-columns (byteOf (halfAfter t x)) x y m u v w (getD y m 0) hm c
-    (eu ∙ rw (same, es) (turn-byte t x 0 m 6 5 (lit< tt) hm (λ j h. refl) (λ j h. refl)))
-    (ev ∙ rw (same, es) (turn-byte t x 1 m 2 1 (lit< tt) hm (λ j h. refl) (λ j h. refl)))
-    (ew ∙ rw (same, es) (turn-byte t x 2 m 1 0 (lit< tt) hm (λ j h. refl) (λ j h. omega arith)))
+    (eu ∙ rw es (turn-byte t x 0 m 6 5 (lit< tt) hm (λ j h. refl) (λ j h. refl)))
+    (ev ∙ rw es (turn-byte t x 1 m 2 1 (lit< tt) hm (λ j h. refl) (λ j h. refl)))
+    (ew ∙ rw es (turn-byte t x 2 m 1 0 (lit< tt) hm (λ j h. refl) (λ j h. omega arith)))
     (ap (λ (k : ℕ). getD y k 0) (sym (zero-add m)) ∙ c .old 0 m (lit< tt) (omega arith) hm ∙ halves x hx 0 m)
 
 pub turns-full : (t x y : List ℕ) (m : ℕ) → m ≡ 4 → TurnsAre t x m y → y ≡ tableRound t x

@@ -4,7 +4,7 @@ use mathlib.Core.Path.{_≡_}
 use mathlib.Core.List.{List}
 use Prim.Native.Nat.{ℕ, _+_, _*_, _/_, _%_}
 use lib.ListN.{getD}
-use Rattle.cipher.specs.Lengths.{addLength, turnLength, foldLength}
+use Rattle.cipher.specs.Lengths.{addLength, addsLength, turnLength, foldLength}
 use Rattle.lists.specs.Tabulation.{tab}
 use Rattle.cipher.specs.Coding.{blockHalf}
 use Rattle.cipher.specs.Tables.{sumAt}
@@ -36,9 +36,9 @@ sumBytes t b = threeWords (sumAt t b)
 
 -- ---- the turns
 
--- half byte j of word i turned by the turn tables in t from the half bytes j + u and j + v of word i in s, and byte m
+-- half byte j of new word i, turned from the half bytes j + u and j + v of sum i in s
 unfoldable pub turnHalf : List ℕ → List ℕ → ℕ → ℕ → ℕ → ℕ → ℕ
-turnHalf t s i j u v = getD t (turnLength * (8 * i + j) + (16 * blockHalf s i ((j + u) % 8) + blockHalf s i ((j + v) % 8))) 0 % 16
+turnHalf t s i j u v = getD t (addsLength + turnLength * (8 * i + j) + (16 * blockHalf s i ((j + u) % 8) + blockHalf s i ((j + v) % 8))) 0 % 16
 
 unfoldable pub turnByte : List ℕ → List ℕ → ℕ → ℕ → ℕ → ℕ → ℕ
 turnByte t s i m u v = turnHalf t s i (2 * m) u v + 16 * turnHalf t s i (2 * m + 1) u v

@@ -3,7 +3,7 @@
 ghost use mathlib.Core.Path.{_≡_};
 ghost use Prim.Native.Nat.{_+_, _*_, _/_, _%_, _≤_, _<_};
 ghost use lib.ListN.{length, getD};
-ghost use Rattle.cipher.specs.Lengths.{addsLength, addLength, turnLength};
+ghost use Rattle.cipher.specs.Lengths.{addsLength, roundLength, addLength, turnLength};
 use cipher::lengths;
 
 // The low half of a byte.
@@ -42,10 +42,10 @@ pub fn add_at(t: &[u8], k: usize, c: usize, p: usize, q: usize) -> u8
     t[lengths::ADD * k + (256 * c + 16 * p + q)]
 }
 
-// An entry of turn table k of those in t.
+// An entry of turn table k.
 pub fn turn_at(t: &[u8], k: usize, p: usize, q: usize) -> u8
-    requires { ⌜ (k < 24) × (p < 16) × (q < 16) × (24 * turnLength ≤ length (now t)) ⌝ }
-    ensures { λ r. ⌜ r ≡ getD (now (t .entry)) (turnLength * k + (16 * p + q)) 0 ⌝ }
+    requires { ⌜ (k < 24) × (p < 16) × (q < 16) × (roundLength ≤ length (now t)) ⌝ }
+    ensures { λ r. ⌜ r ≡ getD (now (t .entry)) (addsLength + turnLength * k + (16 * p + q)) 0 ⌝ }
 {
-    t[lengths::TURN * k + (16 * p + q)]
+    t[lengths::TURNS + lengths::TURN * k + (16 * p + q)]
 }

@@ -54,10 +54,10 @@ slice-write-y-4 c = inside _ 8 _ (below (c .before .before .before)) (lit< tt) (
 loop-again : tie.Need-loop-again Inv-loop μ-loop
 unfolding three four
 loop-again c =
-    let at-whole = c .before in
-    let l = at-whole .before .before .before in
+    let at-joined = c .before in
+    let l = at-joined .before .before .before in
     let e = l .before .before .before .before in
-    let made = differences-next _ _ _ _ _ _ _ _ _ _ _ (omega arith) (e .pre .2) refl (l .loop .inv .2) (at-whole .whole .ensures) (c .byte-of-each .ensures) in
+    let made = differences-next _ _ _ _ _ _ _ _ _ _ _ (omega arith) (e .pre .2) refl (l .loop .inv .2) (at-joined .joined .ensures) (c .byte-of-each .ensures) in
     (omega arith, made .are .len, made)
 
 same-length : tie.Need-same-length Inv-loop μ-loop

@@ -1,5 +1,4 @@
 -- `turns::turns` meets its contract. The invariant: m bytes of each new word are made, and the others are as they were.
-use mathlib.Core.Path.{refl}
 use Prim.Native.Nat.{_-_, _≤_}
 use native.Mathlib.Omega.{arith}
 use borrow.Author.Needs.{needs}
@@ -9,30 +8,28 @@ use Rattle.table_reader.proofs.turns.turns.Statement.{statement}
 use Rattle.table_reader.proofs.turns.turns.Tie as tie
 
 abbrev Inv-loop : tie.InvT-loop
-Inv-loop t s y₀ turn m₀ y m = (m ≤ 4) × TurnsAre t y₀ m y
+Inv-loop t s y₀ m₀ y m = (m ≤ 4) × TurnsAre t y₀ m y
 
 abbrev μ-loop : tie.MeasureT-loop
-μ-loop t s y₀ turn m₀ y m = 4 - m
+μ-loop t s y₀ m₀ y m = 4 - m
 
 loop-holds : tie.Need-loop-holds Inv-loop μ-loop
-loop-holds c = (omega arith, turns-first _ _ (c .before .before .pre .1 .size))
+loop-holds c = (omega arith, turns-first _ _ (c .before .pre .1 .size))
 
 loop-again : tie.Need-loop-again Inv-loop μ-loop
 unfolding three four
 loop-again c =
-    let at-turn-two2 = c .before .before in
-    let at-turn-two = at-turn-two2 .before .before in
-    let l = at-turn-two .before .before .before .before in
-    let e = l .before .before .before in
-    let made = turns-step _ _ _ _ _ _ _ _ _ (omega arith) (e .pre .1 .bytes) (e .pre .2) refl (l .loop .inv .1) in
+    let at-turn-two2 = c .before in
+    let at-turn-two = at-turn-two2 .before in
+    let l = at-turn-two .before .before .before in
+    let e = l .before .before in
+    let made = turns-step _ _ _ _ _ _ _ _ (omega arith) (e .pre .1 .bytes) (e .pre .2) (l .loop .inv .1) in
     (omega arith, made (at-turn-two .turn-two .ensures) (at-turn-two2 .turn-two2 .ensures) (c .turn-two3 .ensures))
 
 returns : tie.Need-returns Inv-loop μ-loop
 returns c = turns-full _ _ _ _ (omega arith) (c .before .loop .inv .1)
 
 pub turns-spec : {M : Type 1} → statement M
-turns-spec =
-    tie.close
-    (tie.spec Inv-loop μ-loop (λ c. search needs) (λ c. search needs) (λ c. search needs) loop-holds (λ c. search needs) (λ c. search needs)
-    (λ c. search needs) (λ c κs. search needs) (λ c. search needs) (λ c κs. search needs) (λ c. search needs) (λ c. search needs)
-    (λ c κs. search needs) (λ c. search needs) (λ c. search needs) (λ c. search needs) (λ c. search needs) loop-again returns)
+turns-spec = tie.close (tie.spec Inv-loop μ-loop loop-holds (λ c. search needs) (λ c. search needs) (λ c. search needs) (λ c κs. search needs)
+    (λ c. search needs) (λ c κs. search needs) (λ c. search needs) (λ c. search needs) (λ c κs. search needs) (λ c. search needs) (λ c. search needs)
+    (λ c. search needs) (λ c. search needs) loop-again returns)

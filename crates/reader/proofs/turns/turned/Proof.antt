@@ -1,12 +1,12 @@
--- `round::turned` meets its contract. The invariant: m bytes of each word are turned.
+-- `turns::turned` meets its contract. The invariant: m bytes of each word are turned.
 use mathlib.Core.Path.{refl}
 use Prim.Native.Nat.{_-_, _≤_}
 use native.Mathlib.Omega.{arith}
 use borrow.Author.Needs.{needs}
 use Rattle.table_reader.proofs.ReadingLaws.{three}
-use Rattle.reader.proofs.RoundLaws.{TurnedAre, turned-first, turned-step, turned-full}
-use Rattle.reader.proofs.round.turned.Statement.{statement}
-use Rattle.reader.proofs.round.turned.Tie as tie
+use Rattle.reader.proofs.TurnLaws.{TurnedAre, turned-first, turned-step, turned-full}
+use Rattle.reader.proofs.turns.turned.Statement.{statement}
+use Rattle.reader.proofs.turns.turned.Tie as tie
 
 abbrev Inv-loop : tie.InvT-loop
 Inv-loop t b s₀ m₀ s m = (m ≤ 4) × TurnedAre t b s₀ m s
@@ -20,10 +20,10 @@ loop-holds c = (omega arith, turned-first _ _ _ refl)
 loop-again : tie.Need-loop-again Inv-loop μ-loop
 unfolding three
 loop-again c =
-    let at-turn-two2 = c .before in
-    let at-turn-two = at-turn-two2 .before in
-    let l = at-turn-two .before .before in
-    (omega arith, turned-step _ _ _ _ _ _ _ _ (omega arith) (l .loop .inv .1) (at-turn-two .turn-two .ensures) (at-turn-two2 .turn-two2 .ensures) (c .turn-two3 .ensures))
+    let at-turned-byte2 = c .before in
+    let at-turned-byte = at-turned-byte2 .before in
+    let l = at-turned-byte .before .before in
+    (omega arith, turned-step _ _ _ _ _ _ _ _ (omega arith) (l .loop .inv .1) (at-turned-byte .turned-byte .ensures) (at-turned-byte2 .turned-byte2 .ensures) (c .turned-byte3 .ensures))
 
 returns : tie.Need-returns Inv-loop μ-loop
 returns c = turned-full _ _ _ _ _ (omega arith) (c .before .loop .inv .1)
