@@ -1,5 +1,6 @@
 -- The premises of demand 3's theorems can be met: for each key size the identity chain is valid, and so is a chain of which no coding is
--- the identity; with either and every key of that size a book is built. So none of the theorems is empty.
+-- the identity; with either and every key of that size a book is built. And so can those of the review screen's (document 02, 2026-01),
+-- by a reading chain of which no coding is the identity. So none of the theorems is empty.
 use mathlib.Core.Path.{_≡_, refl, sym, ap, _∙_}
 use mathlib.Core.Bool.{Bool, true, false, cond}
 use mathlib.Core.List.{List, _++_}
@@ -14,7 +15,7 @@ use Rattle.lists.specs.Blocks.{Bytes, blockLength}
 use Rattle.cipher.specs.KeySize.{rounds, bookLength, sizeOfKey}
 use Rattle.cipher.specs.Lea.{keyRows}
 use Rattle.cipher.specs.Coding.{Permutation}
-use Rattle.cipher.specs.Chain.{messageSet, chainSet, middleSet, maskAt, Chain}
+use Rattle.cipher.specs.Chain.{messageSet, chainSet, middleSet, maskAt, ChainBy, Chain}
 use Rattle.cipher.specs.Book.{bookOf}
 use Rattle.cipher.specs.Lengths.{setLength, longestMessage}
 use Rattle.cipher.specs.Answers.{keySize}
@@ -24,13 +25,13 @@ use Rattle.reading.specs.Book.{readingBookOf, readingBookLength}
 use Rattle.cipher.specs.declared.size.KeySize.{KeySize}
 use Rattle.cipher.specs.declared.size.SizeFound.the-variants.{Found}
 use Rattle.cipher.proofs.ChainPartLaws.{message-read, set-read, middle-read, mask-read, from-valid}
-use Rattle.claims.specs.Identity.{identityChain, shift, shiftAt, shiftedChain, shiftBackAt, shiftedReadingChain}
+use Rattle.claims.specs.Identity.{identityChain, shift, shiftAt, shiftingChain, shiftedChain, shiftedReadingChain}
 use Rattle.claims.specs.Built.{Built, bookIn, archiveSet}
 use Rattle.claims.specs.Review.{ReadingBuilt, readingBookIn, firstSet, Reviewed}
 use Rattle.claims.proofs.BuiltLaws.{any-built, any-reading-built}
 use Rattle.claims.proofs.ReviewTheorem.{reviews}
 
--- ---- both chains are valid
+-- ---- the chains are valid
 
 identity-permutes : Permutation (λ v. v)
 identity-permutes = record { low = λ i l. l; once = λ i k l m e. e }
@@ -55,36 +56,29 @@ mask-bit : (b : Bool) → cond b 0 1 < 2
 mask-bit true = lit< tt
 mask-bit false = lit< tt
 
+-- the chains that shift, with the word rule that they keep
+shifting-valid : (c from to : ℕ) → from < 4 → to < 4 → ((l : ℕ) → (c * suc l + to) % 4 ≡ (c * l + from) % 4) → (z : KeySize) → ChainBy from to z (shiftingChain c z)
+unfolding shiftingChain
+shifting-valid c from to hf ht same z =
+    from-valid from to hf ht z _ _ _ _
+    (record {
+      message = λ w j hw hj. shifted-permutes (shiftAt c 0 w j);
+      sets = λ l hl w j hw hj. shifted-permutes (shiftAt c l w j);
+      middles = λ l i j hl hi hj. shifted-permutes (shiftAt c l i j);
+      words = λ l hl j v hj hv. ap (λ (k : ℕ). shift (k + j) v) (same l);
+      bits = λ l k hl hk. mask-bit (eqb (k % 8) 0);
+      firsts = λ l i hl hi. ap (λ (b : Bool). cond b 0 1) (eq-eqb (8 * i % 8) 0 (omega arith));
+    })
+
 pub shifted-valid : (z : KeySize) → Chain z (shiftedChain z)
-unfolding shiftedChain
-shifted-valid z =
-    from-valid 0 3 (lit< tt) (lit< tt) z _ _ _ _
-    (record {
-      message = λ w j hw hj. shifted-permutes (shiftAt 0 w j);
-      sets = λ l hl w j hw hj. shifted-permutes (shiftAt l w j);
-      middles = λ l i j hl hi hj. shifted-permutes (shiftAt l i j);
-      words = λ l hl j v hj hv. ap (λ (k : ℕ). shift (k + j) v) (omega arith);
-      bits = λ l k hl hk. mask-bit (eqb (k % 8) 0);
-      firsts = λ l i hl hi. ap (λ (b : Bool). cond b 0 1) (eq-eqb (8 * i % 8) 0 (omega arith));
-    })
+shifted-valid = shifting-valid 1 0 3 (lit< tt) (lit< tt) (λ l. omega arith)
 
--- the reading chain is one
 pub shifted-reading-valid : (z : KeySize) → ReadingChain z (shiftedReadingChain z)
-unfolding shiftedReadingChain
-shifted-reading-valid z =
-    from-valid 3 0 (lit< tt) (lit< tt) z _ _ _ _
-    (record {
-      message = λ w j hw hj. shifted-permutes (shiftBackAt 0 w j);
-      sets = λ l hl w j hw hj. shifted-permutes (shiftBackAt l w j);
-      middles = λ l i j hl hi hj. shifted-permutes (shiftBackAt l i j);
-      words = λ l hl j v hj hv. ap (λ (k : ℕ). shift (k + j) v) (omega arith);
-      bits = λ l k hl hk. mask-bit (eqb (k % 8) 0);
-      firsts = λ l i hl hi. ap (λ (b : Bool). cond b 0 1) (eq-eqb (8 * i % 8) 0 (omega arith));
-    })
+shifted-reading-valid = shifting-valid 3 3 0 (lit< tt) (lit< tt) (λ l. omega arith)
 
--- its set 0 is set r of the second chain, since the rounds are a multiple of four
+-- set 0 of the reading chain is set r of the other, since the rounds are a multiple of four
 pub sets-meet : (key : List ℕ) → firstSet (shiftedReadingChain (keySize key)) ≡ archiveSet key (shiftedChain (keySize key))
-unfolding shiftedChain shiftedReadingChain
+unfolding shiftingChain
 sets-meet key =
     ext-getD 0 (firstSet rch) (archiveSet key ch) (sym same) (λ k b.
     let m : k < setLength = rw long at b in
@@ -113,33 +107,33 @@ sets-meet key =
         ∙ ap (λ (k : ℕ). shift (k + j) v) (omega (arith, rounds-fours (keySize key)))
         ∙ sym (set-read r _ _ _ _ r w j v (le-refl r) hw hj hv)
 
--- ---- no coding of the second is the identity: none sends 0 to 0; and masks are set
+-- ---- no coding of a chain that shifts is the identity: none sends 0 to 0; and masks are set
 
-module _ (z : KeySize) where
+module _ (c : ℕ) (z : KeySize) where
   abbrev r : ℕ
   r = rounds z
 
-  moves : (x k : ℕ) → x ≡ shift k 0 → k < 15 → x ≡ 0 → ⊥
-  moves x k e h d = omega arith
+  moves : (x n j : ℕ) → j < 8 → x ≡ shift (n % 4 + j) 0 → x ≡ 0 → ⊥
+  moves x n j h e d = omega arith
 
-  pub message-moves : (w j : ℕ) → w < 4 → j < 8 → messageSet (shiftedChain z) w j 0 ≡ 0 → ⊥
-  unfolding shiftedChain
-  message-moves w j hw hj = moves _ (shiftAt 0 w j) (message-read r _ _ _ _ w j 0 hw hj (lit< tt)) (omega arith)
+  pub message-moves : (w j : ℕ) → w < 4 → j < 8 → messageSet (shiftingChain c z) w j 0 ≡ 0 → ⊥
+  unfolding shiftingChain
+  message-moves w j hw hj = moves _ (c * 0 + w) j hj (message-read r _ _ _ _ w j 0 hw hj (lit< tt))
 
-  pub set-moves : (l w j : ℕ) → l ≤ r → w < 4 → j < 8 → chainSet (shiftedChain z) l w j 0 ≡ 0 → ⊥
-  unfolding shiftedChain
-  set-moves l w j hl hw hj = moves _ (shiftAt l w j) (set-read r _ _ _ _ l w j 0 hl hw hj (lit< tt)) (omega arith)
+  pub set-moves : (l w j : ℕ) → l ≤ r → w < 4 → j < 8 → chainSet (shiftingChain c z) l w j 0 ≡ 0 → ⊥
+  unfolding shiftingChain
+  set-moves l w j hl hw hj = moves _ (c * l + w) j hj (set-read r _ _ _ _ l w j 0 hl hw hj (lit< tt))
 
-  pub middle-moves : (l i j : ℕ) → l < r → i < 3 → j < 8 → middleSet r (shiftedChain z) l i j 0 ≡ 0 → ⊥
-  unfolding shiftedChain
-  middle-moves l i j hl hi hj = moves _ (shiftAt l i j) (middle-read r _ _ _ _ l i j 0 hl hi hj (lit< tt)) (omega arith)
+  pub middle-moves : (l i j : ℕ) → l < r → i < 3 → j < 8 → middleSet r (shiftingChain c z) l i j 0 ≡ 0 → ⊥
+  unfolding shiftingChain
+  middle-moves l i j hl hi hj = moves _ (c * l + i) j hj (middle-read r _ _ _ _ l i j 0 hl hi hj (lit< tt))
 
-  pub mask-set : (l i j : ℕ) → l < r → i < 3 → j < 7 → maskAt r (shiftedChain z) l (8 * i + suc j) ≡ 1
-  unfolding shiftedChain
+  pub mask-set : (l i j : ℕ) → l < r → i < 3 → j < 7 → maskAt r (shiftingChain c z) l (8 * i + suc j) ≡ 1
+  unfolding shiftingChain
   mask-set l i j hl hi hj =
       mask-read r _ _ _ _ l (8 * i + suc j) hl (omega arith) ∙ ap (λ (b : Bool). cond b 0 1) (ne-eqb ((8 * i + suc j) % 8) 0 (λ e. omega arith))
 
--- ---- with either a book is built, into every buffer that has room for it
+-- ---- with the identity chain and with the one that shifts a book is built, into every buffer that has room for it
 
 module _ (z : KeySize) (key : List ℕ) (e : sizeOfKey (length key) ≡ Found z) (out : List ℕ) (h : bookLength z ≤ length out) where
   pub met : Built key (identityChain z) out (bookOf (rounds z) (keyRows z key) (identityChain z) ++ drop (bookLength z) out)
@@ -148,7 +142,7 @@ module _ (z : KeySize) (key : List ℕ) (e : sizeOfKey (length key) ≡ Found z)
   pub met-shifted : Built key (shiftedChain z) out (bookOf (rounds z) (keyRows z key) (shiftedChain z) ++ drop (bookLength z) out)
   met-shifted = any-built z key (shiftedChain z) out e (shifted-valid z) h
 
--- ---- and beside the second a reading book, whose chain's set 0 is its set r: a message's file is read there
+-- ---- and beside the second a reading book: a message's file is read there
 
 module _ (key : List ℕ) (e : sizeOfKey (length key) ≡ Found (keySize key)) (out rout : List ℕ) (room : bookLength (keySize key) ≤ length out)
     (rroom : readingBookLength (keySize key) ≤ length rout) where

@@ -1,6 +1,6 @@
--- Three chains for each key size: the identity chain (document 01, "Table of examples", its first paragraph), and one of which no coding
--- is the identity and every mask that may be set is set. Both are valid (`PremisesMet`); and a
--- reading chain of the second kind, whose set 0 is the second chain's set r.
+-- Three chains for each key size: the identity chain (document 01, "Table of examples", its first paragraph); one of which no coding is
+-- the identity and every mask that may be set is set; and a reading chain (document 02, 2026-01) of that kind, whose set 0 is the second
+-- chain's set r. All are valid (`PremisesMet`).
 use mathlib.Core.Bool.{cond}
 use mathlib.Core.List.{List}
 use Prim.Native.Nat.{ℕ, _+_, _*_, _%_}
@@ -17,21 +17,19 @@ identityChain z = chainFrom (rounds z) (λ w j v. v) (λ l w j v. v) (λ l i j v
 abbrev pub shift : ℕ → ℕ → ℕ
 shift k v = (v + k + 1) % 16
 
--- how far the coding of half byte j of word w shifts in set l: word 3 of a set as far as word 0 of the set before it
-abbrev pub shiftAt : ℕ → ℕ → ℕ → ℕ
-shiftAt l w j = (l + w) % 4 + j
+-- how far the coding of half byte j of word w shifts in set l, where the words go on by c from set to set
+abbrev pub shiftAt : ℕ → ℕ → ℕ → ℕ → ℕ
+shiftAt c l w j = (c * l + w) % 4 + j
 
 -- every coding shifts, by its place, and all masks are set but those that must be 0
-unfoldable pub shiftedChain : KeySize → List ℕ
-shiftedChain z =
-    chainFrom (rounds z) (λ w j. shift (shiftAt 0 w j)) (λ l w j. shift (shiftAt l w j)) (λ l i j. shift (shiftAt l i j))
+unfoldable pub shiftingChain : ℕ → KeySize → List ℕ
+shiftingChain c z =
+    chainFrom (rounds z) (λ w j. shift (shiftAt c 0 w j)) (λ l w j. shift (shiftAt c l w j)) (λ l i j. shift (shiftAt c l i j))
     (λ l k. cond (eqb (k % 8) 0) 0 1)
 
--- how far it shifts in set l of the reading chain: word 0 of a set as far as word 3 of the set before it
-abbrev pub shiftBackAt : ℕ → ℕ → ℕ → ℕ
-shiftBackAt l w j = (3 * l + w) % 4 + j
+-- word 3 of a set shifts as far as word 0 of the set before it; and in the reading chain word 0 as far as word 3
+abbrev pub shiftedChain : KeySize → List ℕ
+shiftedChain z = shiftingChain 1 z
 
-unfoldable pub shiftedReadingChain : KeySize → List ℕ
-shiftedReadingChain z =
-    chainFrom (rounds z) (λ w j. shift (shiftBackAt 0 w j)) (λ l w j. shift (shiftBackAt l w j)) (λ l i j. shift (shiftBackAt l i j))
-    (λ l k. cond (eqb (k % 8) 0) 0 1)
+abbrev pub shiftedReadingChain : KeySize → List ℕ
+shiftedReadingChain z = shiftingChain 3 z
