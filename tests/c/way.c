@@ -72,7 +72,8 @@ static const struct size {
 
 static uint8_t key[32], chain[BOWLINETTE_CHAIN_LENGTH_256 + 1], book[BOWLINETTE_BOOK_LENGTH_256 + BLOCK];
 static uint8_t reading_chain[BOWLINETTE_CHAIN_LENGTH_256 + 1], reading[BOWLINETTE_READING_LENGTH_256 + BLOCK];
-static uint8_t message[LONGEST + 1], coded[LONGEST + 1], sealed[LONGEST + 1], tag[BLOCK];
+/* Coded and sealed texts have room for a block more than the longest. */
+static uint8_t message[LONGEST + 1], coded[LONGEST + 1 + BLOCK], sealed[LONGEST + 1 + BLOCK], tag[BLOCK];
 static const uint8_t iv[BLOCK] = {3, 1, 4, 1, 5, 9, 2, 6, 5, 3, 5, 8, 9, 7, 9, 3};
 static uint64_t coded_length, sealed_length;
 static uint8_t kind;
@@ -355,7 +356,7 @@ static void refusals_of_reading(const struct size *s)
     REFUSED(7, bowlinette_read(reading, s->reading, iv, BLOCK - 1, sealed, n, room.bytes, n, &room.length));
     REFUSED(8, bowlinette_read(reading, s->reading, iv, BLOCK, sealed, 0, room.bytes, n, &room.length));
     REFUSED(8, bowlinette_read(reading, s->reading, iv, BLOCK, sealed, n - 1, room.bytes, n, &room.length));
-    REFUSED(8, bowlinette_read(reading, s->reading, iv, BLOCK, room.bytes, LONGEST + 1 + BLOCK, sealed, LONGEST + 1, &room.length));
+    REFUSED(8, bowlinette_read(reading, s->reading, iv, BLOCK, sealed, sizeof sealed, room.bytes, sizeof room.bytes, &room.length));
     REFUSED(9, bowlinette_read(reading, s->reading, iv, BLOCK, sealed, n, room.bytes, n - 1, &room.length));
 }
 
@@ -383,7 +384,7 @@ static void refusals_of_the_driver(const struct size *s)
     REFUSED(7, bowlinette_seal(book, s->book, iv, 0, coded, BLOCK, room.bytes, BLOCK, &room.length));
     REFUSED(8, bowlinette_seal(book, s->book, iv, BLOCK, coded, 0, room.bytes, BLOCK, &room.length));
     REFUSED(8, bowlinette_seal(book, s->book, iv, BLOCK, coded, BLOCK + 1, room.bytes, 2 * BLOCK, &room.length));
-    REFUSED(8, bowlinette_seal(book, s->book, iv, BLOCK, room.bytes, LONGEST + 1 + BLOCK, sealed, LONGEST + 1, &room.length));
+    REFUSED(8, bowlinette_seal(book, s->book, iv, BLOCK, coded, sizeof coded, room.bytes, sizeof room.bytes, &room.length));
     REFUSED(9, bowlinette_seal(book, s->book, iv, BLOCK, coded, 2 * BLOCK, room.bytes, 2 * BLOCK - 1, &room.length));
 }
 

@@ -118,11 +118,6 @@ fn book_lengths() -> Vec<usize> {
     lengths
 }
 
-/// Whether a book of this length is one.
-fn has_book_length(n: usize) -> bool {
-    n == 466_960 || n == 540_688 || n == 614_416
-}
-
 /// Lengths near that of a block, and some that differ from it only above the low bits.
 const BLOCKS: [usize; 9] = [0, 1, 8, 15, 16, 17, 32, 272, 65_552];
 
@@ -138,7 +133,7 @@ fn lengths_of_books_and_blocks() {
     let (bytes, text) = (random.bytes(800_000), random.bytes(65_552));
     for n in book_lengths() {
         for b in BLOCKS {
-            let due = first(&[(6, !has_book_length(n)), (7, b != 16)]);
+            let due = first(&[(6, !KINDS[0].lengths.contains(&n)), (7, b != 16)]);
             for count in [0, 1, 24, usize::MAX] {
                 let told = rounds(&bytes[..n], count, &text[..b]);
                 assert_eq!(told.err().unwrap_or(0), due, "book of {n}, block of {b}");
@@ -166,6 +161,8 @@ struct Kind {
     name: &'static str,
     books: fn(&mut Random) -> Books,
     lengths: [usize; 3],
+    /// What a book has beside its rounds.
+    beside: usize,
     run: Pass,
 }
 
@@ -174,12 +171,14 @@ const KINDS: [Kind; 2] = [
         name: "seal",
         books: books::any,
         lengths: [466_960, 540_688, 614_416],
+        beside: START + 3 * GROUP,
         run: seal,
     },
     Kind {
         name: "read",
         books: books::any_reading,
         lengths: [450_560, 524_288, 598_016],
+        beside: GROUP,
         run: read,
     },
 ];
@@ -272,6 +271,21 @@ fn refused(kind: &Kind, random: &mut Random) {
                     assert_eq!(number, first(&reasons), "{given:?}");
                 }
             }
+        }
+    }
+}
+
+/// Books of every count of rounds: but for three counts, no book has that length.
+#[test]
+fn books_of_other_counts_of_rounds() {
+    let mut random = Random(81);
+    let (bytes, iv, text) = (random.bytes(800_000), random.bytes(16), random.bytes(32));
+    for kind in &KINDS {
+        for count in 0..=40 {
+            let n = kind.beside + ROUND * count;
+            let due = if [24, 28, 32].contains(&count) { 0 } else { 6 };
+            let number = (kind.run)(&bytes[..n], &iv, &text, 32).0;
+            assert_eq!(number, due, "{}, {count} rounds", kind.name);
         }
     }
 }

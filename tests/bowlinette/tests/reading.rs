@@ -6,6 +6,7 @@
 use reference::book::TURN;
 use reference::chain::{self, decode_all, MIDDLES};
 use reference::lea;
+use reference::pad::LONGEST;
 use reference::reading::ROUND;
 use reference::Size;
 use shared::archive::{open, sealed_text};
@@ -14,9 +15,6 @@ use shared::books::{self, Built};
 use shared::driver::{read, seal};
 use shared::pad::{code, padded, Use};
 use shared::Random;
-
-/// The longest message.
-const LONGEST: usize = 1_048_575;
 
 /// A book, and what reads the files that it seals; the reading book is the proved library's.
 fn two_books(size: Size, random: &mut Random) -> (Built, Built) {

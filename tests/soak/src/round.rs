@@ -280,7 +280,7 @@ impl Round<'_> {
         assert!(same, "sealed and opened, {n} bytes");
     }
 
-    /// Its tag is Valid, and a bit away Invalid.
+    /// A message's tag is Valid, and a bit away Invalid.
     fn tagged_way(&mut self) {
         let message = self.given.message(false);
         let built = &self.given.built;
