@@ -214,8 +214,8 @@ uint32_t bowlinette_check_chain(size_t key_length,
                                 const uint8_t *chain, size_t chain_length);
 
 /*
- * Checks a reading chain for keys of a length. It is laid out as a chain is, but word 0 of each set after
- * set 0 is coded as word 3 of the set before it.
+ * Checks a reading chain for keys of a length. It is laid out as a chain is; in place of the word 3 rule,
+ * word 0 of each set after set 0 is coded as word 3 of the set before it.
  * Refuses 1 (key length), then 2 (chain length), 3 (permutations), 4 (the word 0 rule), 5 (masks).
  */
 uint32_t bowlinette_check_reading_chain(size_t key_length,
