@@ -5,7 +5,6 @@ use Prim.Native.Nat.{ℕ, _+_, _*_, _/_, _%_, _<_}
 use native.Mathlib.Omega.{arith}
 use lib.ListN.{getD, length}
 use Rattle.cipher.specs.Lengths.{turnLength}
-use Rattle.cipher.specs.Coding.{blockHalf}
 use Rattle.reading.specs.Tables.{upperBack, lowerBack, turnedAt}
 use Rattle.table_reader.specs.Reading.{byteOf}
 use Rattle.table_reader.proofs.ReadingLaws.{low-half, high-half, three}

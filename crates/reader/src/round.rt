@@ -1,7 +1,7 @@
 // A block through a round of a reading book (document 02, 2026-01): three words turned back, then the new
 // words, each from the turned word and the new word before it.
 ghost use mathlib.Core.Path.{_≡_};
-ghost use Prim.Native.Nat.{_+_, _*_, _/_, _%_, _≤_, _<_};
+ghost use Prim.Native.Nat.{_≤_, _<_};
 ghost use lib.ListN.{length};
 ghost use Rattle.cipher.specs.Lengths.{addsLength, roundLength};
 ghost use Rattle.lists.specs.Blocks.{blockLength};

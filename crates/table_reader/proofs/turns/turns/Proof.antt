@@ -1,5 +1,5 @@
 -- `turns::turns` meets its contract. The invariant: m bytes of each new word are made, and the others are as they were.
-use Prim.Native.Nat.{_-_, _≤_}
+use Prim.Native.Nat.{_-_, _≤_, _<_}
 use native.Mathlib.Omega.{arith}
 use borrow.Author.Needs.{needs}
 use Rattle.table_reader.proofs.ReadingLaws.{three, four}
@@ -23,8 +23,11 @@ loop-again c =
     let at-turn-two = at-turn-two2 .before in
     let l = at-turn-two .before .before .before in
     let e = l .before .before in
-    let made = turns-step _ _ _ _ _ _ _ _ (omega arith) (e .pre .1 .bytes) (e .pre .2) (l .loop .inv .1) in
-    (omega arith, made (at-turn-two .turn-two .ensures) (at-turn-two2 .turn-two2 .ensures) (c .turn-two3 .ensures))
+    let below : l .loop .m < 4 = omega arith in (
+      omega arith,
+      turns-step _ _ _ _ _ _ _ _ below (e .pre .1 .bytes) (e .pre .2) (l .loop .inv .1) (at-turn-two .turn-two .ensures) (at-turn-two2 .turn-two2 .ensures)
+          (c .turn-two3 .ensures),
+    )
 
 returns : tie.Need-returns Inv-loop μ-loop
 returns c = turns-full _ _ _ _ (omega arith) (c .before .loop .inv .1)
