@@ -57,7 +57,7 @@ mask-bit true = lit< tt
 mask-bit false = lit< tt
 
 -- the chains that shift, with the word rule that they keep
-shifting-valid : (c from to : ℕ) → from < 4 → to < 4 → ((l : ℕ) → (c * suc l + to) % 4 ≡ (c * l + from) % 4) → (z : KeySize) → ChainBy from to z (shiftingChain c z)
+shifting-valid : (c from to : ℕ) → from < 4 → to < 4 → ((l j : ℕ) → shiftAt c (suc l) to j ≡ shiftAt c l from j) → (z : KeySize) → ChainBy from to z (shiftingChain c z)
 unfolding shiftingChain
 shifting-valid c from to hf ht same z =
     from-valid from to hf ht z _ _ _ _
@@ -65,16 +65,16 @@ shifting-valid c from to hf ht same z =
       message = λ w j hw hj. shifted-permutes (shiftAt c 0 w j);
       sets = λ l hl w j hw hj. shifted-permutes (shiftAt c l w j);
       middles = λ l i j hl hi hj. shifted-permutes (shiftAt c l i j);
-      words = λ l hl j v hj hv. ap (λ (k : ℕ). shift (k + j) v) (same l);
+      words = λ l hl j v hj hv. ap (λ (k : ℕ). shift k v) (same l j);
       bits = λ l k hl hk. mask-bit (eqb (k % 8) 0);
       firsts = λ l i hl hi. ap (λ (b : Bool). cond b 0 1) (eq-eqb (8 * i % 8) 0 (omega arith));
     })
 
 pub shifted-valid : (z : KeySize) → Chain z (shiftedChain z)
-shifted-valid = shifting-valid 1 0 3 (lit< tt) (lit< tt) (λ l. omega arith)
+shifted-valid = shifting-valid 1 0 3 (lit< tt) (lit< tt) (λ l j. omega arith)
 
 pub shifted-reading-valid : (z : KeySize) → ReadingChain z (shiftedReadingChain z)
-shifted-reading-valid = shifting-valid 3 3 0 (lit< tt) (lit< tt) (λ l. omega arith)
+shifted-reading-valid = shifting-valid 3 3 0 (lit< tt) (lit< tt) (λ l j. omega arith)
 
 -- set 0 of the reading chain is set r of the other, since the rounds are a multiple of four
 pub sets-meet : (key : List ℕ) → firstSet (shiftedReadingChain (keySize key)) ≡ archiveSet key (shiftedChain (keySize key))
@@ -113,20 +113,23 @@ module _ (c : ℕ) (z : KeySize) where
   abbrev r : ℕ
   r = rounds z
 
-  moves : (x n j : ℕ) → j < 8 → x ≡ shift (n % 4 + j) 0 → x ≡ 0 → ⊥
-  moves x n j h e d = omega arith
+  moves : (x k : ℕ) → x ≡ shift k 0 → k < 15 → x ≡ 0 → ⊥
+  moves x k e h d = omega arith
+
+  near : (n j : ℕ) → j < 8 → n % 4 + j < 15
+  near n j h = omega arith
 
   pub message-moves : (w j : ℕ) → w < 4 → j < 8 → messageSet (shiftingChain c z) w j 0 ≡ 0 → ⊥
   unfolding shiftingChain
-  message-moves w j hw hj = moves _ (c * 0 + w) j hj (message-read r _ _ _ _ w j 0 hw hj (lit< tt))
+  message-moves w j hw hj = moves _ (shiftAt c 0 w j) (message-read r _ _ _ _ w j 0 hw hj (lit< tt)) (near (c * 0 + w) j hj)
 
   pub set-moves : (l w j : ℕ) → l ≤ r → w < 4 → j < 8 → chainSet (shiftingChain c z) l w j 0 ≡ 0 → ⊥
   unfolding shiftingChain
-  set-moves l w j hl hw hj = moves _ (c * l + w) j hj (set-read r _ _ _ _ l w j 0 hl hw hj (lit< tt))
+  set-moves l w j hl hw hj = moves _ (shiftAt c l w j) (set-read r _ _ _ _ l w j 0 hl hw hj (lit< tt)) (near (c * l + w) j hj)
 
   pub middle-moves : (l i j : ℕ) → l < r → i < 3 → j < 8 → middleSet r (shiftingChain c z) l i j 0 ≡ 0 → ⊥
   unfolding shiftingChain
-  middle-moves l i j hl hi hj = moves _ (c * l + i) j hj (middle-read r _ _ _ _ l i j 0 hl hi hj (lit< tt))
+  middle-moves l i j hl hi hj = moves _ (shiftAt c l i j) (middle-read r _ _ _ _ l i j 0 hl hi hj (lit< tt)) (near (c * l + i) j hj)
 
   pub mask-set : (l i j : ℕ) → l < r → i < 3 → j < 7 → maskAt r (shiftingChain c z) l (8 * i + suc j) ≡ 1
   unfolding shiftingChain
