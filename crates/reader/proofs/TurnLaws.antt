@@ -8,7 +8,7 @@ use Rattle.cipher.specs.Lengths.{turnLength}
 use Rattle.reading.specs.Tables.{upperBack, lowerBack, turnedAt}
 use Rattle.table_reader.specs.Reading.{byteOf}
 use Rattle.table_reader.proofs.ReadingLaws.{low-half, high-half, three}
-use Rattle.table_reader.proofs.Columns.{Columns, columns-first, three-columns, three-full}
+use Rattle.table_reader.proofs.Columns.{byte-same, Columns, columns-first, three-columns, three-full}
 use Rattle.reader.specs.Round.{pairOf, turnedHalf, turnedByte, turnedBytes}
 
 -- two half bytes make up one byte, or come from two
@@ -34,11 +34,7 @@ module _ (t b : List ℕ) where
   byte-turned : (i m v : ℕ) → m < 4 → ((j : ℕ) → j < 8 → upperBack i j ≡ (j + v + 1) % 8) → ((j : ℕ) → j < 8 → lowerBack i j ≡ (j + v) % 8)
       → turnedByte t b i m v ≡ byteOf (turnedAt t b) i m
   unfolding turnedByte
-  byte-turned i m v hm e f =
-      rw (
-        half-turned i (2 * m) v (e (2 * m) (omega arith)) (f (2 * m) (omega arith)),
-        half-turned i (2 * m + 1) v (e (2 * m + 1) (omega arith)) (f (2 * m + 1) (omega arith)),
-      )
+  byte-turned i m v hm e f = byte-same (λ i j. turnedHalf t b i j v) (turnedAt t b) i m hm (λ j hj. half-turned i j v (e j hj) (f j hj))
 
   -- the first m bytes of each word are turned, in place of those of s₀
   abbrev pub TurnedAre : List ℕ → ℕ → List ℕ → Type 0

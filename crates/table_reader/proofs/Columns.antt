@@ -13,6 +13,10 @@ use Rattle.cipher.specs.Coding.{blockHalf, ofHalves}
 use Rattle.table_reader.specs.Reading.{byteOf, threeWords}
 use Rattle.table_reader.proofs.ReadingLaws.{half-lo, half-hi, set-far, three, length-three, three-far, three-0, three-1, three-2, four}
 
+-- words of the same half bytes have the same bytes
+pub byte-same : (x y : ℕ → ℕ → ℕ) (i m : ℕ) → m < 4 → ((j : ℕ) → j < 8 → x i j ≡ y i j) → byteOf x i m ≡ byteOf y i m
+byte-same x y i m hm e = rw (e (2 * m) (omega arith), e (2 * m + 1) (omega arith))
+
 -- of n words in y the bytes below m are made by the rule f, and the others are those of x
 pub record Columns (n : ℕ) (f : ℕ → ℕ → ℕ) (x : List ℕ) (m : ℕ) (y : List ℕ) : Type 0 where
   pub len : length y ≡ 4 * n

@@ -11,7 +11,7 @@ use Rattle.cipher.specs.Coding.{blockHalf}
 use Rattle.cipher.specs.Tables.{upper, lower, sumAt, newAt, halfAfter, tableRound}
 use Rattle.table_reader.specs.Reading.{byteOf, sumBytes, turnHalf, turnByte}
 use Rattle.table_reader.proofs.ReadingLaws.{half-lo, half-hi, four}
-use Rattle.table_reader.proofs.Columns.{Columns, columns-first, four-columns, four-full, three-half}
+use Rattle.table_reader.proofs.Columns.{byte-same, Columns, columns-first, four-columns, four-full, three-half}
 use Rattle.table_reader.proofs.SumLaws.{sum-lt}
 
 -- a byte is its two halves
@@ -31,11 +31,7 @@ module _ (t b : List ℕ) where
   turn-byte : (i m u v : ℕ) → i < 3 → m < 4 → ((j : ℕ) → j < 8 → upper i j ≡ (j + u) % 8) → ((j : ℕ) → j < 8 → lower i j ≡ (j + v) % 8)
       → turnByte t (sumBytes t b) i m u v ≡ byteOf (newAt t b) i m
   unfolding turnByte
-  turn-byte i m u v hi hm e f =
-      rw (
-        turn-half i (2 * m) u v hi (omega arith) (e (2 * m) (omega arith)) (f (2 * m) (omega arith)),
-        turn-half i (2 * m + 1) u v hi (omega arith) (e (2 * m + 1) (omega arith)) (f (2 * m + 1) (omega arith)),
-      )
+  turn-byte i m u v hi hm e f = byte-same (λ i j. turnHalf t (sumBytes t b) i j u v) (newAt t b) i m hm (λ j hj. turn-half i j u v hi hj (e j hj) (f j hj))
 
 -- the first m bytes of each new word are made in y, in place of those of the block x
 abbrev pub TurnsAre : List ℕ → List ℕ → ℕ → List ℕ → Type 0
