@@ -1,10 +1,11 @@
-//! Document 01 and request 2026-01 in Rust, written from their words alone: what the proved library is
-//! compared with, and the yardstick of the benchmarks.
+//! Document 01 and requests 2026-01 and 2026-02 in Rust, written from their words alone: what the proved
+//! library is compared with, and the yardstick of the benchmarks.
 
 pub mod archive;
 pub mod book;
 pub mod chain;
 pub mod driver;
+pub mod ink;
 pub mod lea;
 pub mod pad;
 pub mod reading;

@@ -1,4 +1,5 @@
-//! The numbers of the refusals (01, "Refusals from the input" and "Refusals from the state").
+//! The numbers of the refusals (01, "Refusals from the input" and "Refusals from the state"; 02, request
+//! 2026-02).
 
 /// The key has none of the three sizes.
 pub const KEY_LENGTH: u32 = 1;
@@ -26,3 +27,7 @@ pub const PADDING: u32 = 11;
 pub const FINISHED: u32 = 21;
 /// A block call after 65,535 of them.
 pub const LIMIT: u32 = 22;
+/// A mark, kind or order of records that is none, a record missing or its head cut short, a fifth remark.
+pub const RECORD: u32 = 30;
+/// The length of a record is not allowed for its kind, or past the file's end.
+pub const RECORD_LENGTH: u32 = 31;
