@@ -1,9 +1,9 @@
--- The numbers of document 01's refusals ("Refusals from the input" and "Refusals from the state").
+-- The numbers of the refusals: document 01's ("Refusals from the input" and "Refusals from the state") and those that document 02 adds.
 use mathlib.Core.List.{List, [], _∷_}
 use Prim.Native.Nat.{ℕ}
 use Rattle.cipher.specs.declared.refusal.Refusal.{Refusal}
 use Rattle.cipher.specs.declared.refusal.Refusal.the-variants.{KeyLength, ChainLength, NoPermutation, WordRule, MaskByte, BookLength, BlockLength, MessageLength, ShortBuffer}
-use Rattle.cipher.specs.declared.refusal.Refusal.the-variants.{KindByte, BadPadding, SessionFinished, SessionFull}
+use Rattle.cipher.specs.declared.refusal.Refusal.the-variants.{KindByte, BadPadding, SessionFinished, SessionFull, BadRecord, RecordLength}
 use Rattle.cipher.specs.declared.refusal.Outcome.{Outcome}
 use Rattle.cipher.specs.declared.refusal.Outcome.the-variants.{Done, Refused}
 use Rattle.cipher.specs.declared.refusal.Written.{Written}
@@ -23,6 +23,8 @@ numberOf KindByte = 10
 numberOf BadPadding = 11
 numberOf SessionFinished = 21
 numberOf SessionFull = 22
+numberOf BadRecord = 30
+numberOf RecordLength = 31
 
 -- an outcome as a number: 0 where the operation was done
 abbrev pub outcomeOf : Outcome → ℕ

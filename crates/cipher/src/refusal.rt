@@ -1,4 +1,4 @@
-// What an operation refuses, by the numbers of document 01.
+// What an operation refuses, by the numbers of documents 01 and 02.
 ghost use mathlib.Core.Path.{_≡_};
 ghost use Rattle.cipher.specs.Refusal.{numberOf, outcomeOf};
 
@@ -16,6 +16,8 @@ pub enum Refusal {
     BadPadding,
     SessionFinished,
     SessionFull,
+    BadRecord,
+    RecordLength,
 }
 
 // The outcome of an operation that gives nothing else.
@@ -48,6 +50,8 @@ impl Refusal {
             Refusal::BadPadding => 11,
             Refusal::SessionFinished => 21,
             Refusal::SessionFull => 22,
+            Refusal::BadRecord => 30,
+            Refusal::RecordLength => 31,
         }
     }
 }

@@ -24,7 +24,7 @@ pub fn rotate_right(x: u32, n: usize) -> u32
 }
 
 // The word of four bytes.
-fn word(a: u8, b: u8, c: u8, d: u8) -> u32
+pub fn word(a: u8, b: u8, c: u8, d: u8) -> u32
     ensures { λ r. ⌜ r ≡ W.word a b c d ⌝ }
 {
     (a as u32) + 256 * (b as u32) + 65536 * (c as u32) + 16777216 * (d as u32)
@@ -47,7 +47,7 @@ pub fn words(s: &[u8]) -> [u32; 4]
 }
 
 // The bytes of a word.
-fn bytes_of(w: u32) -> [u8; 4]
+pub fn bytes_of(w: u32) -> [u8; 4]
     ensures { λ r. ⌜ r ≡ W.bytesOf w ⌝ }
 {
     [
