@@ -1,8 +1,8 @@
 -- A buffer that a loop fills from the front: what is written so far, then what it held before. One law for each way
 -- in which one turn of a loop writes more: an element, a part that was lent, an element of an array that held z.
-use mathlib.Core.Path.{_≡_, sym, ap, _∙_}
+use mathlib.Core.Path.{_≡_, refl, sym, ap, _∙_}
 use mathlib.Core.List.{List, [], _∷_, _++_, append-assoc, append-nil}
-use Prim.Native.Nat.{ℕ, suc, _+_, _-_, _*_, _≤_, _<_}
+use Prim.Native.Nat.{ℕ, zero, suc, _+_, _-_, _*_, _≤_, _<_}
 use native.Mathlib.Nat.{le-of-eq, add-sub-cancel-left}
 use native.Mathlib.Numerals.{add-one}
 use native.Mathlib.Omega.{arith}
@@ -93,3 +93,12 @@ pub put-more : (p d out b : List ℕ) (n s : ℕ) → length p ≡ n → out ≡
 put-more p d out b n s l e =
     ap {B = List ℕ} (λ x. take n x ++ b ++ drop (n + s) x) e
     ∙ rw (take-at p (drop n d) n l, sym (drop-drop s n (p ++ drop n d)), drop-at p (drop n d) n l, drop-drop s n d)
+
+-- a front of a list, by the length that it has
+pub take-same : (n m : ℕ) (l : List ℕ) → length (take n l) ≡ m → take m l ≡ take n l
+take-same zero zero l e = refl
+take-same zero (suc m) l e = absurd (omega arith)
+take-same (suc n) zero [] e = refl
+take-same (suc n) (suc m) [] e = absurd (omega arith)
+take-same (suc n) zero (x ∷ l) e = absurd (omega arith)
+take-same (suc n) (suc m) (x ∷ l) e = ap {B = List ℕ} (λ t. x ∷ t) (take-same n m l (omega arith))

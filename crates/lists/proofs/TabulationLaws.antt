@@ -52,3 +52,9 @@ pub getD-replicate : (n d k : ℕ) → getD (replicate n d) k d ≡ d
 getD-replicate zero d k = refl
 getD-replicate (suc n) d zero = refl
 getD-replicate (suc n) d (suc k) = getD-replicate n d k
+
+-- behind a list they are not seen
+pub getD-filled : (l : List ℕ) (n d k : ℕ) → getD (l ++ replicate n d) k d ≡ getD l k d
+getD-filled [] n d k = getD-replicate n d k
+getD-filled (x ∷ l) n d zero = refl
+getD-filled (x ∷ l) n d (suc k) = getD-filled l n d k
