@@ -1,0 +1,19 @@
+-- The laws of ink files, all of them.
+use Rattle.inkfile.specs.Laws.{InkLaws}
+use Rattle.inkfile.proofs.FileLaws.{write-read, read-write, accepted-exactly, writing-once}
+use Rattle.inkfile.proofs.ReadRefusals.{read-refused}
+use Rattle.inkfile.proofs.WriteLaws as W
+
+pub ink-laws : InkLaws
+ink-laws =
+    record {
+      survives = write-read;
+      left = W.write-left;
+      restored = read-write;
+      again = W.write-again;
+      exactly = accepted-exactly;
+      once = writing-once;
+      read-refused = read-refused;
+      write-refused = W.write-refused;
+      written = W.written-exactly;
+    }

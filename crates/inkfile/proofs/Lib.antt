@@ -1,0 +1,16 @@
+pub mod KindLaws
+pub mod RecordLaws
+pub mod TestLaws
+pub mod FitLaws
+pub mod WalkLaws
+pub mod FileLaws
+pub mod ReadRefusals
+pub mod WriteLaws
+pub mod InkTheorem
+pub mod FaultLaws
+pub mod SeenLaws
+pub mod RecordsLaws
+pub mod ToldLaws
+pub mod PutLaws
+pub mod WriteInkLaws
+pub mod Example

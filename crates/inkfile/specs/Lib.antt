@@ -1,0 +1,9 @@
+pub mod Kinds
+pub mod Format
+pub mod Reading
+pub mod Writing
+pub mod Faults
+pub mod Laws
+pub mod Examples
+pub mod ReadingSteps
+pub mod WritingSteps
