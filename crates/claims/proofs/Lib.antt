@@ -8,6 +8,7 @@ pub mod RoundsTheorem
 pub mod SealedText
 pub mod SealTheorem
 pub mod ReviewTheorem
+pub mod InkTheorem
 pub mod CmacBlocks
 pub mod RefusedCalls
 pub mod MessageCalls

@@ -8,3 +8,4 @@ pub mod Identity
 pub mod Demand3
 pub mod Examples
 pub mod Order
+pub mod Ink

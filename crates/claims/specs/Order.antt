@@ -1,14 +1,14 @@
 -- Lowest number first (document 01, "Refusals from the input" and "from the state"): the refusals of every operation go by one order
 -- of the numbers.
 use mathlib.Core.Bool.{Bool}
-use mathlib.Core.List.{List}
+use mathlib.Core.List.{List, _++_}
 use Prim.Native.Nat.{ℕ}
 use Rattle.lists.specs.Refusals.{GoesBy}
 use Rattle.cipher.specs.KeySize.{bookLength}
 use Rattle.cipher.specs.Lengths.{roundLength}
 use Rattle.cipher.specs.Refusal.{refusalOrder}
 use Rattle.cipher.specs.Chain.{setTests}
-use Rattle.cipher.specs.Answers.{keyTests, keyBlockTests, chainCheckTests}
+use Rattle.cipher.specs.Answers.{keyTests, keyBlockTests, chainCheckTests, roomTests}
 use Rattle.book.specs.Answers.{buildTests, buildTestsBy}
 use Rattle.reading.specs.Book.{readingBookLength}
 use Rattle.reading_book.specs.Answers.{readingChainCheckTests}
@@ -17,6 +17,8 @@ use Rattle.pad.specs.Answers.{codingTests}
 use Rattle.driver.specs.Driver.{bookTests, runRoundTests, runRoundsTests, sealTests, blockCallTests, lastCallTests}
 use Rattle.driver.specs.declared.session.Session.{Session}
 use Rattle.archive.specs.Archive.{allOpenTests, checkTests}
+use Rattle.inkfile.specs.Kinds.{kindTests}
+use Rattle.inkfile.specs.Reading.{recordTests}
 use Rattle.claims.specs.Model.{Call, State, refusals}
 
 -- of the numbers whose conditions hold, the one that stands first in the order is given, and none where no condition holds
@@ -38,6 +40,10 @@ pub record Order : Type 1 where
   pub check-reading-chain : (n : ℕ) (ch : List ℕ) → InOrder (readingChainCheckTests n ch)
   pub building-reading : (key ch out : List ℕ) → InOrder (buildTestsBy 3 0 key ch out readingBookLength)
   pub reading : (bk iv sealed out : List ℕ) → InOrder (readTests bk iv sealed out)
+  -- ink files: at a record of a file, and at one of a writer's fields with the buffer after it. Of several records the first at fault
+  -- decides (`InkLaws` of inkfile)
+  pub ink-record : (file : List ℕ) (k at : ℕ) → InOrder (recordTests file k at)
+  pub ink-field : (k kind n : ℕ) (length : ℕ) (out : List ℕ) → InOrder (kindTests k kind n ++ roomTests length out)
   -- the pad, for sealing and for a tag: a message of n bytes, of which `total` are written into a buffer of `room` bytes
   pub code : (u : List ℕ) (n total room : ℕ) → InOrder (codingTests u n total room)
   -- the driver
