@@ -1,10 +1,10 @@
 /*
  * Bowlinette: the cipher LEA, table books of it, and what is done with them, for C and C++ programs.
- * Link libbowlinette.a, which is built for x86-64 Linux. docs/FORMAT.md has the layout of chains, books
- * and sessions, docs/SECURITY.md what a caller must see to.
+ * Link libbowlinette.a, which is built for x86-64 Linux. docs/FORMAT.md has the layout of chains, books,
+ * sessions and ink files, docs/SECURITY.md what a caller must see to.
  *
  * Every function but bowlinette_is_valid returns 0, or the number of a refusal. Where several refusals
- * apply, the lowest number is returned. After a refusal nothing behind any pointer has changed; after a
+ * apply, the lowest number is returned; of an ink file the first record at fault decides. After a refusal nothing behind any pointer has changed; after a
  * success only what the function's pointers that are not to const refer to has.
  *
  * All lengths count bytes. No pointer may be null, also where its length is 0, and what is written
@@ -24,8 +24,8 @@ extern "C" {
 
 /* The version of this interface. */
 #define BOWLINETTE_VERSION_MAJOR 1
-#define BOWLINETTE_VERSION_MINOR 1
-#define BOWLINETTE_VERSION "1.1"
+#define BOWLINETTE_VERSION_MINOR 2
+#define BOWLINETTE_VERSION "1.2"
 
 /* What is returned. */
 #define BOWLINETTE_DONE 0
@@ -43,6 +43,9 @@ extern "C" {
 #define BOWLINETTE_REFUSED_PADDING 11       /* what was opened does not end in padding */
 #define BOWLINETTE_REFUSED_FINISHED 21      /* a block or last call on a finished session */
 #define BOWLINETTE_REFUSED_LIMIT 22         /* a block call after 65,535 accepted ones */
+#define BOWLINETTE_REFUSED_RECORD 30        /* of an ink file, a record's mark, kind or order, a record that is
+                                               missing or cut short, or a fifth remark */
+#define BOWLINETTE_REFUSED_RECORD_LENGTH 31 /* a record's length is not allowed, or past the file's end */
 
 /* A block, in bytes, and the round keys of one round, in 32-bit words. */
 #define BOWLINETTE_BLOCK_LENGTH 16
@@ -72,6 +75,25 @@ extern "C" {
 #define BOWLINETTE_ROUND_LENGTH 18432
 #define BOWLINETTE_SESSION_LENGTH 19
 #define BOWLINETTE_BLOCK_CALLS_MAX 65535
+
+/*
+ * An ink file is a run of records, each a byte hex a5, its kind, its length in four bytes, lowest first,
+ * and its bytes: a pad number, an IV, sealed blocks and a tag, in this order, and then up to four remarks.
+ * The kinds; the head of a record, a pad number, the longest remark and the longest file in bytes; the
+ * most remarks, and how many numbers tell where all that stands.
+ */
+#define BOWLINETTE_INK_PAD_NUMBER 0x01
+#define BOWLINETTE_INK_IV 0x02
+#define BOWLINETTE_INK_SEALED 0x03
+#define BOWLINETTE_INK_TAG 0x04
+#define BOWLINETTE_INK_REMARK_FIRST 0x10
+#define BOWLINETTE_INK_REMARK_LAST 0x1f
+#define BOWLINETTE_INK_HEAD_LENGTH 6
+#define BOWLINETTE_PAD_NUMBER_LENGTH 8
+#define BOWLINETTE_REMARK_LENGTH_MAX 255
+#define BOWLINETTE_INK_LENGTH_MAX 1049684
+#define BOWLINETTE_REMARKS_MAX 4
+#define BOWLINETTE_INK_NUMBERS 18
 
 /* The three key sizes: the key in bytes, its rounds, its chain, book and reading book in bytes. */
 #define BOWLINETTE_KEY_LENGTH_128 16
@@ -159,6 +181,12 @@ static inline const char *bowlinette_text(uint32_t refusal)
         return "The session is finished.";
     case BOWLINETTE_REFUSED_LIMIT:
         return "The session has taken 65,535 block calls.";
+    case BOWLINETTE_REFUSED_RECORD:
+        return "A record of the ink file has a wrong mark, kind or place, is missing or cut short, or "
+               "is a fifth remark.";
+    case BOWLINETTE_REFUSED_RECORD_LENGTH:
+        return "A record of the ink file has a length that its kind does not allow, or that goes past "
+               "the end of the file.";
     default:
         return "This number is not known.";
     }
@@ -400,6 +428,56 @@ uint32_t bowlinette_is_valid(const uint8_t *key, size_t key_length,
                              const uint8_t *set, size_t set_length,
                              const uint8_t *message, size_t message_length,
                              const uint8_t *tag, size_t tag_length);
+
+/*
+ * Where the fields of an ink file stand: the offsets of the bytes of pad number, IV, sealed blocks and tag,
+ * the length of the sealed blocks, how many remarks there are, and of each its kind, offset and length;
+ * zeros for remarks that there are not.
+ */
+typedef struct bowlinette_ink {
+    uint64_t pad_number;
+    uint64_t iv;
+    uint64_t sealed;
+    uint64_t sealed_length;
+    uint64_t tag;
+    uint64_t remarks;
+    uint64_t kinds[BOWLINETTE_REMARKS_MAX];
+    uint64_t offsets[BOWLINETTE_REMARKS_MAX];
+    uint64_t lengths[BOWLINETTE_REMARKS_MAX];
+} bowlinette_ink;
+
+/*
+ * Reads an ink file: writes to ink the 18 numbers that a bowlinette_ink has, in its order; a struct is given
+ * as (uint64_t *)&ink. Only the heads of records are looked at.
+ * Goes record by record. Refuses, at the first record at fault, 30 (fewer than six bytes left, no mark, a
+ * kind that is not known or not due there, a fifth remark; also a file that ends before its tag), then 31
+ * (a length that the kind does not allow, or past the file's end).
+ * TAKE CARE: a file that is read has the form of an ink file, no more: anyone can write one. Its tag is
+ * checked where the key is.
+ */
+uint32_t bowlinette_read_ink(const uint8_t *file, size_t file_length,
+                             uint64_t ink[BOWLINETTE_INK_NUMBERS]);
+
+/*
+ * Writes an ink file to the front of out, which may be longer: the bytes after it stay as they were. kinds
+ * has a byte for each remark; the bytes of the first are remark0, and so on, and remarks past the length of
+ * kinds are not looked at. How many bytes were written goes to length: 64 and the sealed bytes, and for
+ * each remark 6 and its bytes.
+ * Goes record by record, as reading does. Refuses 31 (pad number not of 8 bytes, IV not of 16, sealed blocks
+ * empty, over 1,048,576 bytes or no multiple of 16, tag not of 16), for each remark 30 (kind not hex 10 to
+ * 1f) and then 31 (over 255 bytes), 30 (a fifth remark), then 9 (out too short).
+ */
+uint32_t bowlinette_write_ink(const uint8_t *pad_number, size_t pad_number_length,
+                              const uint8_t *iv, size_t iv_length,
+                              const uint8_t *sealed, size_t sealed_length,
+                              const uint8_t *tag, size_t tag_length,
+                              const uint8_t *kinds, size_t kinds_length,
+                              const uint8_t *remark0, size_t remark0_length,
+                              const uint8_t *remark1, size_t remark1_length,
+                              const uint8_t *remark2, size_t remark2_length,
+                              const uint8_t *remark3, size_t remark3_length,
+                              uint8_t *out, size_t out_length,
+                              uint64_t *length);
 
 #ifdef __cplusplus
 }

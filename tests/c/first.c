@@ -1,4 +1,4 @@
-/* A message from the pad to the archive: coded, sealed, tagged; opened, and its tag checked. */
+/* A message from the pad to the archive: coded, sealed, tagged, put into an ink file; opened, and its tag checked. */
 #include "bowlinette.h"
 #include <stdio.h>
 #include <stdlib.h>
@@ -41,9 +41,13 @@ static void plain_chain(void)
 int main(void)
 {
     static const uint8_t message[] = "ink"; /* with the zero at its end */
+    static const uint8_t number[BOWLINETTE_PAD_NUMBER_LENGTH] = "pad 017", remark[] = "counter 3";
+    static const uint8_t kinds[] = {BOWLINETTE_INK_REMARK_FIRST};
     const uint8_t *u = chain + BOWLINETTE_CHAIN_MESSAGE_SET, *last = chain + BOWLINETTE_CHAIN_LAST_SET_128;
     uint8_t key[BOWLINETTE_KEY_LENGTH_128], iv[BLOCK], coded[BLOCK], sealed[BLOCK], opened[BLOCK], tag[BLOCK], kind;
+    static uint8_t file[BOWLINETTE_INK_LENGTH_MAX];
     bowlinette_session session;
+    bowlinette_ink ink;
     uint64_t n;
 
     /* the works, which has the key */
@@ -61,9 +65,14 @@ int main(void)
     done("begin", bowlinette_begin(&session, book, sizeof book));
     done("last call", bowlinette_last_call(&session, book, sizeof book, coded, n, kind, tag));
 
+    /* all of it, and one remark, in one file */
+    done("write ink", bowlinette_write_ink(number, sizeof number, iv, BLOCK, sealed, BLOCK, tag, BLOCK, kinds, sizeof kinds, remark, sizeof remark,
+                                           remark, 0, remark, 0, remark, 0, file, sizeof file, &n));
+
     /* the archive, which has the key and the last set */
-    done("open", bowlinette_open(key, sizeof key, last, SET, iv, sizeof iv, sealed, sizeof sealed, opened, sizeof opened, &n));
-    if (!bowlinette_is_valid(key, sizeof key, last, SET, opened, n, tag, sizeof tag)) {
+    done("read ink", bowlinette_read_ink(file, n, (uint64_t *)&ink));
+    done("open", bowlinette_open(key, sizeof key, last, SET, file + ink.iv, BLOCK, file + ink.sealed, ink.sealed_length, opened, sizeof opened, &n));
+    if (!bowlinette_is_valid(key, sizeof key, last, SET, opened, n, file + ink.tag, BLOCK)) {
         fprintf(stderr, "the tag is not valid\n");
         return 1;
     }

@@ -6,7 +6,9 @@ use native.Mathlib.Omega.{arith}
 use Rattle.cipher.specs.Refusal.{numberOf}
 use Rattle.cipher.proofs.AnswerLaws.{number-more}
 use Rattle.cipher.specs.declared.refusal.Refusal.{Refusal}
+use Rattle.inkfile.specs.Reading.{Told}
 use Rattle.bowlinette.specs.Into.{into, kept}
+use Rattle.bowlinette.specs.Ink.{inkNumbers}
 
 -- number n of an answer whose outcome is o
 module _ {A : Type 0} (answer : ℕ × A) (o n : ℕ) (v old : A) (told : (o, v) ≡ answer) (e : n ≡ o) where
@@ -64,3 +66,8 @@ into-refused a q n old e h = ap (λ (k : ℕ). (k, old)) h ∙ go (numberOf q) (
     go : (k : ℕ) → 0 < k → (k, old) ≡ into (k, 0) old
     go zero l = absurd (omega arith)
     go (suc k) l = refl
+
+-- the 18 numbers v of what is told in t of an ink file, which is the answer a
+pub ink-told : (t a : Told) (v : List ℕ) → v ≡ inkNumbers t .1 → t ≡ a → (t .refusal, v) ≡ inkNumbers a
+unfolding inkNumbers
+ink-told t a v e h = (λ i. (t .refusal, e i)) ∙ ap inkNumbers h

@@ -1,3 +1,4 @@
 pub mod Into
 pub mod Session
 pub mod Records
+pub mod Ink
