@@ -13,11 +13,11 @@ use Rattle.cipher.specs.declared.refusal.Outcome.the-variants.{Done, Refused}
 use Rattle.cipher.specs.Refusal.{numberOf, outcomeOf}
 use Rattle.cipher.proofs.AnswerLaws.{number-more}
 use Rattle.inkfile.specs.declared.kind.Kind.{Kind}
-use Rattle.inkfile.specs.Kinds.{kindOf, due, sized, kindTests}
+use Rattle.inkfile.specs.Kinds.{kindOf, due, sized, kindTests, faultOf}
 use Rattle.inkfile.specs.Format.{Record, recordsOf}
 use Rattle.inkfile.specs.Writing.{runTests, remarksOf, given}
 use Rattle.inkfile.specs.Faults.{Fitting, KindFault, undue, unsized}
-use Rattle.inkfile.specs.WritingSteps.{faultOf, remarkFault, earlierOf, remarksFault, fieldsFault}
+use Rattle.inkfile.specs.WritingSteps.{remarkFault, earlierOf, remarksFault, fieldsFault}
 use Rattle.inkfile.proofs.KindLaws.{no-ninth}
 use Rattle.inkfile.proofs.TestLaws.{Judged, faulty, fine, kind-fault, kind-fits, kind-judged, kind-number}
 

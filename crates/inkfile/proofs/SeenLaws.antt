@@ -13,7 +13,7 @@ use Rattle.inkfile.specs.Format.{mark}
 use Rattle.inkfile.specs.Reading.{kindAt, lengthAt}
 use Rattle.inkfile.specs.Faults.{Fitting, RecordFault, cut-short, unmarked, by-kind, past-end}
 use Rattle.inkfile.specs.ReadingSteps.{seenAnswer}
-use Rattle.inkfile.specs.WritingSteps.{faultOf}
+use Rattle.inkfile.specs.Kinds.{faultOf}
 use Rattle.inkfile.proofs.TestLaws.{record-fault, record-sound}
 use Rattle.inkfile.proofs.FaultLaws.{fault-known, fault-fits}
 

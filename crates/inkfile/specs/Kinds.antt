@@ -5,6 +5,7 @@ use mathlib.Core.List.{List, [], _∷_}
 use Prim.Native.Nat.{ℕ}
 use lib.Dec.{eqb, leb, ltb}
 use Rattle.lists.specs.Blocks.{blockLength}
+use Rattle.lists.specs.Refusals.{first}
 use Rattle.cipher.specs.Answers.{badText}
 use Rattle.inkfile.specs.declared.kind.Kind.{Kind}
 use Rattle.inkfile.specs.declared.kind.Kind.the-variants.{PadNumber, Iv, Sealed, Tag, Remark, Unknown}
@@ -44,3 +45,7 @@ sized Unknown n = false
 -- 31, a length that the kind does not allow
 abbrev pub kindTests : ℕ → ℕ → ℕ → List (Bool × ℕ)
 kindTests k kind n = (not (due (kindOf kind) k), 30) ∷ (not (sized (kindOf kind) n), 31) ∷ []
+
+-- its fault by these: the number, 0 where there is none
+unfoldable pub faultOf : ℕ → ℕ → ℕ → ℕ
+faultOf k kind n = first (kindTests k kind n) (λ q. q) 0

@@ -4,15 +4,10 @@ use mathlib.Core.List.{List, [], _++_}
 use Prim.Native.Nat.{ℕ, _+_}
 use lib.Dec.{eqb, leb}
 use lib.ListN.{length, getD}
-use Rattle.lists.specs.Refusals.{first}
-use Rattle.inkfile.specs.Kinds.{kindTests}
+use Rattle.inkfile.specs.Kinds.{faultOf}
 use Rattle.inkfile.specs.Format.{headLength, recordOf}
 
--- the fault of a record: its number, 0 where there is none
-unfoldable pub faultOf : ℕ → ℕ → ℕ → ℕ
-faultOf k kind n = first (kindTests k kind n) (λ q. q) 0
-
--- of remark i, if it is given, of n bytes
+-- the fault of remark i, if it is given, of n bytes
 unfoldable pub remarkFault : List ℕ → ℕ → ℕ → ℕ
 remarkFault kinds i n = cond (leb (length kinds) i) 0 (faultOf (4 + i) (getD kinds i 0) n)
 

@@ -2,7 +2,6 @@
 ghost use mathlib.Core.Path.{_≡_};
 ghost use Rattle.cipher.specs.Refusal.{outcomeOf};
 ghost use Rattle.inkfile.specs.Kinds as K;
-ghost use Rattle.inkfile.specs.WritingSteps.{faultOf};
 use crate::layout;
 use cipher::block::bad_text;
 use cipher::lengths;
@@ -63,13 +62,15 @@ fn sized(kind: Kind, n: usize) -> bool
 
 // The fault of a record k with a kind byte and n bytes.
 pub fn fault(k: usize, kind: u8, n: usize) -> Outcome
-    ensures { λ r. ⌜ outcomeOf r ≡ faultOf k kind n ⌝ }
+    ensures { λ r. ⌜ outcomeOf r ≡ K.faultOf k kind n ⌝ }
 {
     let known = kind_of(kind);
-    if !due(known, k) {
+    let placed = due(known, k);
+    let measured = sized(known, n);
+    if !placed {
         return Outcome::Refused(Refusal::BadRecord);
     }
-    if !sized(known, n) {
+    if !measured {
         return Outcome::Refused(Refusal::RecordLength);
     }
     Outcome::Done

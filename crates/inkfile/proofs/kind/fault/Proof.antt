@@ -7,19 +7,23 @@ use Rattle.inkfile.proofs.kind.fault.Statement.{statement}
 use Rattle.inkfile.proofs.kind.fault.Tie as tie
 
 returns : tie.Need-returns
-returns c = let d = c .before in sym (fault-undue _ _ _ _ (d .before .kind-of .ensures) (sym (d .due .ensures) ∙ not-true _ (c .if1 .taken)))
+returns c =
+    let d = c .before .before in
+    sym (fault-undue _ _ _ _ (d .before .kind-of .ensures) (sym (d .due .ensures) ∙ not-true _ (c .if1 .taken)))
 
 returns-2 : tie.Need-returns-2
 returns-2 c =
-    let e = c .before .before in
-    let d = e .before in
-    sym (fault-unsized _ _ _ _ (d .before .kind-of .ensures) (sym (d .due .ensures) ∙ not-false _ (e .if1 .left)) (sym (c .before .sized .ensures) ∙ not-true _ (c .if2 .taken)))
+    let s = c .before .before in
+    let d = s .before in
+    let placed = sym (d .due .ensures) ∙ not-false _ (c .before .if1 .left) in
+    sym (fault-unsized _ _ _ _ (d .before .kind-of .ensures) placed (sym (s .sized .ensures) ∙ not-true _ (c .if2 .taken)))
 
 returns-3 : tie.Need-returns-3
 returns-3 c =
-    let e = c .before .before in
-    let d = e .before in
-    sym (fault-none _ _ _ _ (d .before .kind-of .ensures) (sym (d .due .ensures) ∙ not-false _ (e .if1 .left)) (sym (c .before .sized .ensures) ∙ not-false _ (c .if2 .left)))
+    let s = c .before .before in
+    let d = s .before in
+    let placed = sym (d .due .ensures) ∙ not-false _ (c .before .if1 .left) in
+    sym (fault-none _ _ _ _ (d .before .kind-of .ensures) placed (sym (s .sized .ensures) ∙ not-false _ (c .if2 .left)))
 
 pub fault-spec : {M : Type 1} → statement M
-fault-spec = tie.close (tie.spec (λ c κs. search needs) (λ c κs. search needs) returns (λ c κs. search needs) returns-2 returns-3)
+fault-spec = tie.close (tie.spec (λ c κs. search needs) (λ c κs. search needs) (λ c κs. search needs) returns returns-2 returns-3)
