@@ -1,6 +1,6 @@
 -- A writer's judgement of its fields, fault by fault: it is the first of the tests of `Writing`.
 use mathlib.Core.Path.{_≡_, refl, sym, ap, ap₂, _∙_}
-use mathlib.Core.Bool.{Bool, true, false, cond, not}
+use mathlib.Core.Bool.{Bool, true, false, cond, not, false≢true}
 use mathlib.Core.List.{List, [], _∷_, _++_}
 use Prim.Native.Nat.{ℕ, _+_, _≤_, _<_}
 use native.Mathlib.Omega.{arith}
@@ -15,10 +15,10 @@ use Rattle.cipher.proofs.AnswerLaws.{number-more}
 use Rattle.inkfile.specs.declared.kind.Kind.{Kind}
 use Rattle.inkfile.specs.Kinds.{kindOf, due, sized, kindTests, faultOf}
 use Rattle.inkfile.specs.Format.{Record, recordsOf}
-use Rattle.inkfile.specs.Writing.{runTests, remarksOf, given}
-use Rattle.inkfile.specs.Faults.{Fitting, KindFault, undue, unsized}
+use Rattle.inkfile.specs.Writing.{runTests, remarksOf, fieldsGiven}
+use Rattle.inkfile.specs.Faults.{DueKind, Fitting, KindFault, undue, unsized}
 use Rattle.inkfile.specs.WritingSteps.{remarkFault, earlierOf, remarksFault, fieldsFault}
-use Rattle.inkfile.proofs.KindLaws.{no-ninth}
+use Rattle.inkfile.proofs.KindLaws.{due-kind, kind-due, due-few, sized-kind, kind-sized}
 use Rattle.inkfile.proofs.TestLaws.{Judged, faulty, fine, kind-fault, kind-fits, kind-judged, kind-number}
 
 -- ---- one record
@@ -49,18 +49,18 @@ module _ (k kind n : ℕ) where
   -- by the kind K, as the code goes
   module _ (K : Kind) (e : K ≡ kindOf kind) where
     pub fault-undue : due K k ≡ false → faultOf k kind n ≡ 30
-    fault-undue d = fault-told 30 (undue (ap (λ (J : Kind). due J k) (sym e) ∙ d))
+    fault-undue d = fault-told 30 (undue (λ h. false≢true (sym (ap (λ (J : Kind). due J k) (sym e) ∙ d) ∙ kind-due kind k h)))
 
     module _ (d : due K k ≡ true) where
-      placed-here : due (kindOf kind) k ≡ true
-      placed-here = ap (λ (J : Kind). due J k) (sym e) ∙ d
+      placed-here : DueKind k kind
+      placed-here = due-kind kind k (ap (λ (J : Kind). due J k) (sym e) ∙ d)
 
       pub fault-unsized : sized K n ≡ false → faultOf k kind n ≡ 31
-      fault-unsized s = fault-told 31 (unsized placed-here (ap (λ (J : Kind). sized J n) (sym e) ∙ s))
+      fault-unsized s = fault-told 31 (unsized placed-here (λ h. false≢true (sym (ap (λ (J : Kind). sized J n) (sym e) ∙ s) ∙ kind-sized kind n h)))
 
       pub fault-none : sized K n ≡ true → faultOf k kind n ≡ 0
       unfolding faultOf first
-      fault-none s = kind-fits [] (λ q. q) 0 k kind n (record { placed = placed-here; measured = ap (λ (J : Kind). sized J n) (sym e) ∙ s })
+      fault-none s = kind-fits [] (λ q. q) 0 k kind n (record { placed = placed-here; measured = sized-kind kind n (ap (λ (J : Kind). sized J n) (sym e) ∙ s) })
 
 -- ---- the first of two
 
@@ -103,7 +103,7 @@ remark-given kinds i n h = rw (lt-leb (length kinds) i h)
 ninth : (kind : ℕ) (rs : List Record) → first (runTests 8 ((kind, []) ∷ rs)) (λ q. q) 0 ≡ faultOf 8 kind 0
 unfolding runTests
 ninth kind rs =
-    let f : KindFault 8 kind 0 30 = undue (no-ninth (kindOf kind)) in
+    let f : KindFault 8 kind 0 30 = undue (λ d. let l = due-few kind 8 d in omega arith) in
     kind-fault (runTests 9 rs) (λ q. q) 0 8 kind 0 30 f ∙ sym (fault-told 8 kind 0 30 f)
 
 pub remarks-judged : (kinds b0 b1 b2 b3 : List ℕ)
@@ -145,9 +145,9 @@ remarks-judged (k0 ∷ k1 ∷ k2 ∷ k3 ∷ k4 ∷ ks) b0 b1 b2 b3 =
 -- ---- all fields
 
 pub fields-judged : (padNumber iv sealed tag kinds b0 b1 b2 b3 : List ℕ)
-    → first (runTests 0 (recordsOf (given padNumber iv sealed tag kinds (b0 ∷ b1 ∷ b2 ∷ b3 ∷ [])))) (λ q. q) 0
+    → first (runTests 0 (recordsOf (fieldsGiven padNumber iv sealed tag kinds (b0 ∷ b1 ∷ b2 ∷ b3 ∷ [])))) (λ q. q) 0
     ≡ fieldsFault (length padNumber) (length iv) (length sealed) (length tag) (remarksFault kinds (length b0) (length b1) (length b2) (length b3))
-unfolding runTests given
+unfolding runTests fieldsGiven
 fields-judged padNumber iv sealed tag kinds b0 b1 b2 b3 =
     let us = runTests 4 (remarksOf kinds (b0 ∷ b1 ∷ b2 ∷ b3 ∷ [])) in
     fault-earlier 0 1 (length padNumber) (kindTests 1 2 (length iv) ++ (kindTests 2 3 (length sealed) ++ (kindTests 3 4 (length tag) ++ us)))

@@ -12,7 +12,7 @@ use Rattle.lists.proofs.PartLaws.{take-same}
 use Rattle.inkfile.specs.Format.{Record, runOf, Fields, recordsOf, inkOf, Allowed}
 use Rattle.inkfile.specs.Reading.{kindAt, lengthAt, startOf, recordsRead, kindsTo, offsetsTo, lengthsTo, behindFour, toldOf, readInkAnswer}
 use Rattle.inkfile.specs.Reading.{part, remarksTold, fieldsTold, fieldsRead}
-use Rattle.inkfile.specs.Laws.{Accepted, Holds, WritingOf, Writing}
+use Rattle.inkfile.specs.Laws.{Accepted, Holds, WritingOf, WrittenFile}
 use Rattle.inkfile.proofs.FitLaws.{Fit, allowed-fit, Shaped, fit-shaped}
 use Rattle.inkfile.proofs.WalkLaws.{recordIn, recordsFrom, Read, written-read, Kept, read-written}
 
@@ -137,10 +137,10 @@ read-write file hb e =
     record { allowed = rw t (allowed-in file m fit); same = ap inkOf t ∙ ap runOf (records-in file m fit) ∙ sym whole }
 
 -- a file of bytes is accepted exactly if it is the writing of fields within the limits
-pub accepted-exactly : (file : List ℕ) → Bytes file → Accepted file ↔ Writing file
+pub accepted-exactly : (file : List ℕ) → Bytes file → Accepted file ↔ WrittenFile file
 accepted-exactly file hb = (λ e. record { fields = fieldsRead file; writing = read-write file hb e }, back)
   where
-    back : Writing file → Accepted file
+    back : WrittenFile file → Accepted file
     back w = ap (λ (l : List ℕ). readInkAnswer l .refusal) (sym (w .writing .same)) ∙ write-read (w .fields) (w .writing .allowed) .accepted
 
 -- and of one set of fields only

@@ -1,10 +1,10 @@
--- Laws of the kinds: what each byte stands for, which kind byte a place asks for, and how long a record may be.
-use mathlib.Core.Path.{_≡_, refl, ap}
+-- Laws of the kinds: what each byte stands for; and the tests of place and length are what `Faults` says in figures.
+use mathlib.Core.Path.{_≡_, refl, ap, _∙_}
 use mathlib.Core.Bool.{Bool, true, false, cond, not, false≢true, _&&_}
-use Prim.Native.Nat.{ℕ, suc, _%_, _≤_, _<_}
+use Prim.Native.Nat.{ℕ, zero, suc, _%_, _≤_, _<_}
 use native.Mathlib.Decide.{ℕ-discrete}
 use native.Mathlib.Omega.{arith}
-use borrow.Author.Tests.{leb-true, eqb-true, ltb-true, le-leb, lt-leb, eq-eqb, ne-eqb, not-true}
+use borrow.Author.Tests.{leb-true, eqb-true, ltb-true, le-leb, lt-leb, lt-ltb, eq-eqb, ne-eqb, not-true}
 use lib.Dec.{eqb, leb, ltb}
 use Rattle.lists.proofs.EveryLaws.{and-true}
 use Rattle.cipher.specs.Answers.{badText}
@@ -12,6 +12,7 @@ use Rattle.cipher.proofs.AnswerLaws.{text-good, text-known}
 use Rattle.inkfile.specs.declared.kind.Kind.{Kind}
 use Rattle.inkfile.specs.declared.kind.Kind.the-variants.{PadNumber, Iv, Sealed, Tag, Remark, Unknown}
 use Rattle.inkfile.specs.Kinds.{kindOf, due, sized}
+use Rattle.inkfile.specs.Faults.{DueKind, one-of-four, a-remark, KindLength, of-pad-number, of-iv, of-sealed, of-tag, of-remark}
 
 -- ---- the kind of a byte
 
@@ -64,51 +65,42 @@ stands b = one (ℕ-discrete b 1)
 
 -- ---- which kind byte is due
 
-module _ (b k : ℕ) where
-  -- of the first four, one
-  pub due-fixed : k < 4 → due (kindOf b) k ≡ true → b ≡ suc k
-  unfolding due
-  due-fixed l = go (kindOf b) (stands b)
-    where
-      go : (K : Kind) → Stands b K → due K k ≡ true → b ≡ suc k
-      go PadNumber (pad-number e) h = omega (arith, eqb-true k 0 h)
-      go Iv (iv e) h = omega (arith, eqb-true k 1 h)
-      go Sealed (sealed e) h = omega (arith, eqb-true k 2 h)
-      go Tag (tag e) h = omega (arith, eqb-true k 3 h)
-      go Remark s h = absurd (omega (arith, leb-true 4 k (and-true (leb 4 k) (ltb k 8) h .0)))
-      go Unknown s h = absurd (false≢true h)
-
-  -- behind them a remark
-  pub due-remark : 4 ≤ k → due (kindOf b) k ≡ true → (0x10 ≤ b) × (b ≤ 0x1f)
-  unfolding due
-  due-remark l = go (kindOf b) (stands b)
-    where
-      go : (K : Kind) → Stands b K → due K k ≡ true → (0x10 ≤ b) × (b ≤ 0x1f)
-      go PadNumber s h = let e = eqb-true k 0 h in absurd (omega arith)
-      go Iv s h = let e = eqb-true k 1 h in absurd (omega arith)
-      go Sealed s h = let e = eqb-true k 2 h in absurd (omega arith)
-      go Tag s h = let e = eqb-true k 3 h in absurd (omega arith)
-      go Remark (remark a c) h = (a, c)
-      go Unknown s h = absurd (false≢true h)
-
--- and no ninth record
-pub due-few : (K : Kind) (k : ℕ) → due K k ≡ true → k < 8
+pub due-kind : (b k : ℕ) → due (kindOf b) k ≡ true → DueKind k b
 unfolding due
-due-few PadNumber k h = let e = eqb-true k 0 h in omega arith
-due-few Iv k h = let e = eqb-true k 1 h in omega arith
-due-few Sealed k h = let e = eqb-true k 2 h in omega arith
-due-few Tag k h = let e = eqb-true k 3 h in omega arith
-due-few Remark k h = ltb-true k 8 (and-true (leb 4 k) (ltb k 8) h .1)
-due-few Unknown k h = absurd (false≢true h)
+due-kind b k = go (kindOf b) (stands b)
+  where
+    go : (K : Kind) → Stands b K → due K k ≡ true → DueKind k b
+    go PadNumber (pad-number e) h = let z = eqb-true k 0 h in one-of-four (omega arith) (omega arith)
+    go Iv (iv e) h = let z = eqb-true k 1 h in one-of-four (omega arith) (omega arith)
+    go Sealed (sealed e) h = let z = eqb-true k 2 h in one-of-four (omega arith) (omega arith)
+    go Tag (tag e) h = let z = eqb-true k 3 h in one-of-four (omega arith) (omega arith)
+    go Remark (remark a c) h = let v = and-true (leb 4 k) (ltb k 8) h in a-remark (leb-true 4 k (v .0)) (ltb-true k 8 (v .1)) a c
+    go Unknown s h = absurd (false≢true h)
 
-pub no-ninth : (K : Kind) → due K 8 ≡ false
-unfolding due
-no-ninth PadNumber = refl
-no-ninth Iv = refl
-no-ninth Sealed = refl
-no-ninth Tag = refl
-no-ninth Remark = refl
-no-ninth Unknown = refl
+pub kind-due : (b k : ℕ) → DueKind k b → due (kindOf b) k ≡ true
+unfolding kindOf due
+kind-due b zero (one-of-four l e) = ap (λ (x : ℕ). due (kindOf x) 0) e
+kind-due b (suc zero) (one-of-four l e) = ap (λ (x : ℕ). due (kindOf x) 1) e
+kind-due b (suc (suc zero)) (one-of-four l e) = ap (λ (x : ℕ). due (kindOf x) 2) e
+kind-due b (suc (suc (suc zero))) (one-of-four l e) = ap (λ (x : ℕ). due (kindOf x) 3) e
+kind-due b (suc (suc (suc (suc k)))) (one-of-four l e) = absurd (omega arith)
+kind-due b k (a-remark l h low high) = ap (λ (K : Kind). due K k) (remark-kind b low high) ∙ rw (le-leb 4 k l, lt-ltb k 8 h)
+
+pub not-due : (b k : ℕ) → (DueKind k b → ⊥) → due (kindOf b) k ≡ false
+not-due b k n = go (due (kindOf b) k) refl
+  where
+    go : (t : Bool) → due (kindOf b) k ≡ t → due (kindOf b) k ≡ false
+    go true e = absurd (n (due-kind b k e))
+    go false e = e
+
+-- one of the first four, and no ninth
+pub due-fixed : (b k : ℕ) → k < 4 → DueKind k b → b ≡ suc k
+due-fixed b k l (one-of-four h e) = e
+due-fixed b k l (a-remark h m low high) = absurd (omega arith)
+
+pub due-few : (b k : ℕ) → DueKind k b → k < 8
+due-few b k (one-of-four h e) = omega arith
+due-few b k (a-remark l h low high) = h
 
 -- a remark's place, as the code tests it
 module _ (K : Kind) (k : ℕ) (e : K ≡ Remark) where
@@ -134,11 +126,36 @@ sized-blocks n h =
     let c = v .2 in
     (omega arith, v .1, c)
 
-pub sized-most : (K : Kind) (n : ℕ) → sized K n ≡ true → n ≤ 1048576
+pub sized-kind : (b n : ℕ) → sized (kindOf b) n ≡ true → KindLength b n
 unfolding sized
-sized-most PadNumber n h = let e = eqb-true n 8 h in omega arith
-sized-most Iv n h = let e = eqb-true n 16 h in omega arith
-sized-most Sealed n h = sized-blocks n h .1
-sized-most Tag n h = let e = eqb-true n 16 h in omega arith
-sized-most Remark n h = let e = leb-true n 255 h in omega arith
-sized-most Unknown n h = absurd (false≢true h)
+sized-kind b n = go (kindOf b) (stands b)
+  where
+    go : (K : Kind) → Stands b K → sized K n ≡ true → KindLength b n
+    go PadNumber (pad-number e) h = of-pad-number e (eqb-true n 8 h)
+    go Iv (iv e) h = of-iv e (eqb-true n 16 h)
+    go Sealed (sealed e) h = let v = sized-blocks n h in of-sealed e (v .0) (v .1) (v .2)
+    go Tag (tag e) h = of-tag e (eqb-true n 16 h)
+    go Remark (remark a c) h = of-remark a c (leb-true n 255 h)
+    go Unknown s h = absurd (false≢true h)
+
+pub kind-sized : (b n : ℕ) → KindLength b n → sized (kindOf b) n ≡ true
+unfolding kindOf sized
+kind-sized b n (of-pad-number e h) = ap (λ (x : ℕ). sized (kindOf x) n) e ∙ eq-eqb n 8 h
+kind-sized b n (of-iv e h) = ap (λ (x : ℕ). sized (kindOf x) n) e ∙ eq-eqb n 16 h
+kind-sized b n (of-sealed e l m w) = ap (λ (x : ℕ). sized (kindOf x) n) e ∙ blocks-sized n l m w
+kind-sized b n (of-tag e h) = ap (λ (x : ℕ). sized (kindOf x) n) e ∙ eq-eqb n 16 h
+kind-sized b n (of-remark low high h) = ap (λ (K : Kind). sized K n) (remark-kind b low high) ∙ le-leb n 255 h
+
+pub not-sized : (b n : ℕ) → (KindLength b n → ⊥) → sized (kindOf b) n ≡ false
+not-sized b n f = go (sized (kindOf b) n) refl
+  where
+    go : (t : Bool) → sized (kindOf b) n ≡ t → sized (kindOf b) n ≡ false
+    go true e = absurd (f (sized-kind b n e))
+    go false e = e
+
+pub length-most : (b n : ℕ) → KindLength b n → n ≤ 1048576
+length-most b n (of-pad-number e h) = omega arith
+length-most b n (of-iv e h) = omega arith
+length-most b n (of-sealed e l m w) = m
+length-most b n (of-tag e h) = omega arith
+length-most b n (of-remark low high h) = omega arith

@@ -4,6 +4,7 @@ pub mod TestLaws
 pub mod FitLaws
 pub mod WalkLaws
 pub mod FileLaws
+pub mod CallLaws
 pub mod ReadRefusals
 pub mod WriteLaws
 pub mod InkTheorem

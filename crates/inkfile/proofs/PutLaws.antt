@@ -53,10 +53,6 @@ record-over out o1 o2 h body at kind eh l e1 e2 =
     e2 ∙ put-more p out o1 body (at + 6) (length body) lp w
     ∙ ap₂ {C = List ℕ} (λ (a b : List ℕ). a ++ b) (append-assoc (take at out) H body) (ap (λ (j : ℕ). drop j out) (z ∙ ap (λ (j : ℕ). at + j) y))
 
-pub length-head : (kind n : ℕ) (h : List ℕ) → h ≡ headOf kind n → length (take 6 h) ≡ 6
-unfolding bytesOf
-length-head kind n h e = ap (λ (x : List ℕ). length (take 6 x)) e
-
 -- ---- remarks, if they are given
 
 module _ (kinds : List ℕ) (i : ℕ) (b : List ℕ) where

@@ -2,12 +2,12 @@
 use mathlib.Core.Path.{_≡_, refl, sym, ap, _∙_}
 use mathlib.Core.Logic.{_↔_}
 use mathlib.Core.Bool.{Bool, true, false, cond}
-use mathlib.Core.List.{List}
+use mathlib.Core.List.{List, []}
 use Prim.Native.Nat.{ℕ, zero, suc, _+_, _<_}
 use native.Mathlib.Omega.{arith}
+use Rattle.lists.specs.Tabulation.{tab}
 use Rattle.lists.specs.Refusals.{first}
-use Rattle.inkfile.specs.Kinds.{kindOf}
-use Rattle.inkfile.specs.Reading.{kindAt, startOf, recordTests, ends, walk, recordsRead, toldOf, readInkAnswer}
+use Rattle.inkfile.specs.Reading.{kindAt, startOf, recordTests, ends, walk, recordsRead, kindsTo, offsetsTo, lengthsTo, toldOf, readInkAnswer}
 use Rattle.inkfile.specs.Faults.{undue, unsized, Sound, RecordFault, cut-short, unmarked, by-kind, past-end, ReadFault, here, later}
 use Rattle.inkfile.proofs.KindLaws.{due-few}
 use Rattle.inkfile.proofs.TestLaws.{Judged, faulty, fine, record-fault, record-judged}
@@ -19,11 +19,11 @@ module _ (file : List ℕ) where
   ninth-fault k at q e (cut-short h) = refl
   ninth-fault k at q e (unmarked h m) = refl
   ninth-fault k at q e (by-kind h m (undue d)) = refl
-  ninth-fault k at q e (by-kind h m (unsized d s)) = let l = due-few (kindOf (kindAt file at)) k d in absurd (omega arith)
-  ninth-fault k at q e (past-end h m f l) = let w = due-few (kindOf (kindAt file at)) k (f .placed) in absurd (omega arith)
+  ninth-fault k at q e (by-kind h m (unsized d s)) = let l = due-few (kindAt file at) k d in absurd (omega arith)
+  ninth-fault k at q e (past-end h m f l) = let w = due-few (kindAt file at) k (f .placed) in absurd (omega arith)
 
   pub few-sound : (k at : ℕ) → Sound file k at → k < 8
-  few-sound k at s = due-few (kindOf (kindAt file at)) k (s .fitting .placed)
+  few-sound k at s = due-few (kindAt file at) k (s .fitting .placed)
 
   -- ---- a fault is refused
 
@@ -69,3 +69,9 @@ module _ (file : List ℕ) where
 pub read-refused : (file : List ℕ) (q : ℕ) → 0 < q → (readInkAnswer file .refusal ≡ q) ↔ ReadFault file 0 q
 unfolding readInkAnswer toldOf recordsRead
 read-refused file q p = (refused-fault file 8 0 q refl p, λ f. ap (λ (a : ℕ × ℕ). a .0) (fault-refused file 8 0 q refl f))
+
+-- and nothing is told besides the number
+pub nothing-told : (file : List ℕ) (q : ℕ) → ReadFault file 0 q → readInkAnswer file ≡ toldOf q 0 [] [] []
+unfolding readInkAnswer recordsRead tab
+nothing-told file q f =
+    ap (λ (a : ℕ × ℕ). toldOf (a .0) (a .1) (kindsTo file (a .1)) (offsetsTo file (a .1)) (lengthsTo file (a .1))) (fault-refused file 8 0 q refl f)

@@ -26,12 +26,27 @@ told-filled q c n ks os ls =
       lengths = four-filled ls n i;
     }
 
+-- as the code puts it together
+abbrev told-by : ℕ → List ℕ → List ℕ → ℕ → List ℕ → List ℕ → List ℕ → Told
+told-by q os ls m k4 o4 l4 =
+    record {
+      refusal = q;
+      padNumber = getD os 0 0;
+      iv = getD os 1 0;
+      sealed = getD os 2 0;
+      sealedLength = getD ls 2 0;
+      tag = getD os 3 0;
+      count = m;
+      kinds = k4;
+      offsets = o4;
+      lengths = l4;
+    }
+
 pub laid-out : (file : List ℕ) (q c m : ℕ) (ks os ls k4 o4 l4 : List ℕ) → (q, c, ks, os, ls) ≡ recordsAnswer file → m ≡ remarksIn c → k4 ≡ behindFour ks → o4 ≡ behindFour os → l4 ≡ behindFour ls
-    → _≡_ {A = Told} (record { refusal = q; padNumber = getD os 0 0; iv = getD os 1 0; sealed = getD os 2 0; sealedLength = getD ls 2 0; tag = getD os 3 0; count = m; kinds = k4; offsets = o4; lengths = l4 })
-    (readInkAnswer file)
+    → told-by q os ls m k4 o4 l4 ≡ readInkAnswer file
 unfolding toldOf readInkAnswer recordsOfWalk
 laid-out file q c m ks os ls k4 o4 l4 e em ek eo el =
     let a = recordsRead file in
-    (λ i. record { refusal = q; padNumber = getD os 0 0; iv = getD os 1 0; sealed = getD os 2 0; sealedLength = getD ls 2 0; tag = getD os 3 0; count = em i; kinds = ek i; offsets = eo i; lengths = el i })
+    (λ i. told-by q os ls (em i) (ek i) (eo i) (el i))
     ∙ ap (λ (t : ℕ × ℕ × List ℕ × List ℕ × List ℕ). toldOf (t .0) (t .1) (t .2) (t .3) (t .4)) e
     ∙ told-filled (a .0) (a .1) (8 - a .1) (kindsTo file (a .1)) (offsetsTo file (a .1)) (lengthsTo file (a .1))

@@ -12,11 +12,10 @@ use lib.Seq.{length-take-le}
 use Rattle.lists.specs.Blocks.{Bytes}
 use Rattle.lists.specs.Refusals.{first}
 use Rattle.lists.proofs.EveryLaws.{and-true}
-use Rattle.inkfile.specs.Kinds.{kindOf}
 use Rattle.inkfile.specs.Format.{Record, recordOf, runOf}
 use Rattle.inkfile.specs.Reading.{kindAt, lengthAt, startOf, recordTests, ends, walk, part}
 use Rattle.inkfile.specs.Faults.{Fitting, Sound, RecordFault}
-use Rattle.inkfile.proofs.KindLaws.{sized-most}
+use Rattle.inkfile.proofs.KindLaws.{length-most}
 use Rattle.inkfile.proofs.RecordLaws.{mark-at, kind-at, length-at, body-at, rest-at, room-at, record-at}
 use Rattle.inkfile.proofs.TestLaws.{Judged, faulty, fine, record-sound, record-judged, record-number}
 use Rattle.inkfile.proofs.FitLaws.{Fit, none, more}
@@ -77,7 +76,7 @@ module _ (file : List ℕ) where
   written-read zero k (r ∷ rs) (more w h) e l m f = absurd (omega arith)
   written-read (suc n) k (r ∷ rs) (more f h) e l m p =
       let at = startOf file k in
-      let w = sized-most (kindOf (r .0)) (length (r .1)) (f .measured) in
+      let w = length-most (r .0) (length (r .1)) (f .measured) in
       let ek : kindAt file at ≡ r .0 = kind-at file at r (runOf rs) e in
       let el : lengthAt file at ≡ length (r .1) = length-at file at r (runOf rs) e (omega arith) in
       let room = room-at file at r (runOf rs) e in

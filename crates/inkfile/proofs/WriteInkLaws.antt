@@ -14,7 +14,7 @@ use Rattle.cipher.specs.Refusal.{numberOf, outcomeOf}
 use Rattle.cipher.proofs.AnswerLaws.{number-more}
 use Rattle.cipher.proofs.CheckLaws.{told-refused}
 use Rattle.inkfile.specs.Format.{Record, recordOf, runOf, Fields, recordsOf, inkOf, AllowedRemarks, no-more, one-more, Allowed}
-use Rattle.inkfile.specs.Writing.{runTests, writeInkAnswer, remarksOf, given}
+use Rattle.inkfile.specs.Writing.{runTests, writeInkAnswer, remarksOf, fieldsGiven}
 use Rattle.inkfile.specs.WritingSteps.{remarkBytes, fixedBytes, fixedSize, remarksBytes, remarksSize, fieldsFault, remarksFault}
 use Rattle.inkfile.proofs.RecordLaws.{length-record}
 use Rattle.inkfile.proofs.WriteLaws.{run-passed, fit-allowed, write-short, write-done}
@@ -48,7 +48,7 @@ remarks-most (r ∷ rs) (one-more a l) = omega (arith, length-append (recordOf r
 
 module _ (padNumber iv sealed tag kinds b0 b1 b2 b3 : List ℕ) where
   fields : Fields
-  fields = given padNumber iv sealed tag kinds (b0 ∷ b1 ∷ b2 ∷ b3 ∷ [])
+  fields = fieldsGiven padNumber iv sealed tag kinds (b0 ∷ b1 ∷ b2 ∷ b3 ∷ [])
 
   module _ (rem o : Outcome) (er : outcomeOf rem ≡ remarksFault kinds (length b0) (length b1) (length b2) (length b3))
       (eo : outcomeOf o ≡ fieldsFault (length padNumber) (length iv) (length sealed) (length tag) (outcomeOf rem)) where
@@ -58,21 +58,21 @@ module _ (padNumber iv sealed tag kinds b0 b1 b2 b3 : List ℕ) where
         fields-judged padNumber iv sealed tag kinds b0 b1 b2 b3
         ∙ ap (fieldsFault (length padNumber) (length iv) (length sealed) (length tag)) (sym er) ∙ sym eo
 
-    pub write-refused : (q : Refusal) → o ≡ Refused q → (out : List ℕ) → ((numberOf q, 0), out) ≡ writeInkAnswer (given padNumber iv sealed tag kinds (b0 ∷ b1 ∷ b2 ∷ b3 ∷ [])) out
+    pub call-refused : (q : Refusal) → o ≡ Refused q → (out : List ℕ) → ((numberOf q, 0), out) ≡ writeInkAnswer (fieldsGiven padNumber iv sealed tag kinds (b0 ∷ b1 ∷ b2 ∷ b3 ∷ [])) out
     unfolding fields writeInkAnswer
-    write-refused q e out = sym (told-refused _ (λ q. ((q, 0), out)) _ (runTests 0 (recordsOf fields)) (numberOf q) (number-more q) (judged ∙ ap outcomeOf e))
+    call-refused q e out = sym (told-refused _ (λ q. ((q, 0), out)) _ (runTests 0 (recordsOf fields)) (numberOf q) (number-more q) (judged ∙ ap outcomeOf e))
 
-    pub write-allowed : o ≡ Done → Allowed (given padNumber iv sealed tag kinds (b0 ∷ b1 ∷ b2 ∷ b3 ∷ []))
+    pub call-allowed : o ≡ Done → Allowed (fieldsGiven padNumber iv sealed tag kinds (b0 ∷ b1 ∷ b2 ∷ b3 ∷ []))
     unfolding fields
-    write-allowed e = fit-allowed fields (run-passed 0 (recordsOf fields) (judged ∙ ap outcomeOf e))
+    call-allowed e = fit-allowed fields (run-passed 0 (recordsOf fields) (judged ∙ ap outcomeOf e))
 
-  module _ (a : Allowed (given padNumber iv sealed tag kinds (b0 ∷ b1 ∷ b2 ∷ b3 ∷ []))) where
+  module _ (a : Allowed (fieldsGiven padNumber iv sealed tag kinds (b0 ∷ b1 ∷ b2 ∷ b3 ∷ []))) where
     few-kinds : length kinds ≤ 4
-    unfolding given
+    unfolding fieldsGiven
     few-kinds = let h = a .few in omega (arith, length-given kinds (b0 ∷ b1 ∷ b2 ∷ b3 ∷ []))
 
-    file-parts : inkOf (given padNumber iv sealed tag kinds (b0 ∷ b1 ∷ b2 ∷ b3 ∷ [])) ≡ fixedBytes padNumber iv sealed tag ++ remarksBytes kinds b0 b1 b2 b3
-    unfolding inkOf runOf given fixedBytes
+    file-parts : inkOf (fieldsGiven padNumber iv sealed tag kinds (b0 ∷ b1 ∷ b2 ∷ b3 ∷ [])) ≡ fixedBytes padNumber iv sealed tag ++ remarksBytes kinds b0 b1 b2 b3
+    unfolding inkOf runOf fieldsGiven fixedBytes
     file-parts =
         let x = recordOf (0x01, padNumber) in
         let y = recordOf (0x02, iv) in
@@ -89,10 +89,10 @@ module _ (padNumber iv sealed tag kinds b0 b1 b2 b3 : List ℕ) where
       pub tag16 : length tag ≡ 16
       pub sealed-most : length sealed ≤ 1048576
       pub remarks-few : remarksSize kinds (length b0) (length b1) (length b2) (length b3) ≤ 1044
-      pub file-length : length (inkOf (given padNumber iv sealed tag kinds (b0 ∷ b1 ∷ b2 ∷ b3 ∷ []))) ≡ 64 + length sealed + remarksSize kinds (length b0) (length b1) (length b2) (length b3)
+      pub file-length : length (inkOf (fieldsGiven padNumber iv sealed tag kinds (b0 ∷ b1 ∷ b2 ∷ b3 ∷ []))) ≡ 64 + length sealed + remarksSize kinds (length b0) (length b1) (length b2) (length b3)
 
     pub sizes : Sizes
-    unfolding given
+    unfolding fieldsGiven
     sizes =
         let n8 : length padNumber ≡ 8 = a .padNumber in
         let i16 : length iv ≡ 16 = a .iv in
@@ -108,15 +108,15 @@ module _ (padNumber iv sealed tag kinds b0 b1 b2 b3 : List ℕ) where
         record { number8 = n8; iv16 = i16; tag16 = t16; sealed-most = a .most; remarks-few = omega arith; file-length = omega arith }
 
     pub write-no-room : (out : List ℕ) → length out < 64 + length sealed + remarksSize kinds (length b0) (length b1) (length b2) (length b3)
-        → ((9, 0), out) ≡ writeInkAnswer (given padNumber iv sealed tag kinds (b0 ∷ b1 ∷ b2 ∷ b3 ∷ [])) out
-    write-no-room out h = sym (write-short (given padNumber iv sealed tag kinds (b0 ∷ b1 ∷ b2 ∷ b3 ∷ [])) out a (let e = sizes .file-length in omega arith))
+        → ((9, 0), out) ≡ writeInkAnswer (fieldsGiven padNumber iv sealed tag kinds (b0 ∷ b1 ∷ b2 ∷ b3 ∷ [])) out
+    write-no-room out h = sym (write-short (fieldsGiven padNumber iv sealed tag kinds (b0 ∷ b1 ∷ b2 ∷ b3 ∷ [])) out a (let e = sizes .file-length in omega arith))
 
     pub write-all : (out o1 o2 : List ℕ) (at n : ℕ) → n ≡ 64 + length sealed + remarksSize kinds (length b0) (length b1) (length b2) (length b3) → n ≤ length out
         → (at ≡ fixedSize (length padNumber) (length iv) (length sealed) (length tag)) × (o1 ≡ overlaid out 0 (fixedBytes padNumber iv sealed tag)) → o2 ≡ overlaid o1 at
         (remarksBytes kinds b0 b1 b2 b3)
-        → ((0, n), o2) ≡ writeInkAnswer (given padNumber iv sealed tag kinds (b0 ∷ b1 ∷ b2 ∷ b3 ∷ [])) out
+        → ((0, n), o2) ≡ writeInkAnswer (fieldsGiven padNumber iv sealed tag kinds (b0 ∷ b1 ∷ b2 ∷ b3 ∷ [])) out
     write-all out o1 o2 at n en h p e2 =
-        let F = inkOf (given padNumber iv sealed tag kinds (b0 ∷ b1 ∷ b2 ∷ b3 ∷ [])) in
+        let F = inkOf (fieldsGiven padNumber iv sealed tag kinds (b0 ∷ b1 ∷ b2 ∷ b3 ∷ [])) in
         let s = sizes in
         let lf = length-fixed padNumber iv sealed tag in
         let e = s .file-length in
@@ -128,4 +128,4 @@ module _ (padNumber iv sealed tag kinds b0 b1 b2 b3 : List ℕ) where
         ∙ two-overlaid out 0 (fixedBytes padNumber iv sealed tag) (remarksBytes kinds b0 b1 b2 b3) at x (omega arith)
         ∙ ap (overlaid out 0) (sym file-parts) ∙ ap (λ (j : ℕ). F ++ drop j out) z in
         let y : n ≡ length F = omega arith in
-        (λ i. ((0, y i), w i)) ∙ sym (write-done (given padNumber iv sealed tag kinds (b0 ∷ b1 ∷ b2 ∷ b3 ∷ [])) out a (omega arith))
+        (λ i. ((0, y i), w i)) ∙ sym (write-done (fieldsGiven padNumber iv sealed tag kinds (b0 ∷ b1 ∷ b2 ∷ b3 ∷ [])) out a (omega arith))

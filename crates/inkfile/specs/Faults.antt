@@ -1,24 +1,36 @@
 -- The refusals of ink files in words (document 02, 2026-02): the first record with a fault decides, and at it 30 comes before 31.
-use mathlib.Core.Bool.{true, false}
+use mathlib.Core.Bool.{false}
 use mathlib.Core.Path.{_≡_}
 use mathlib.Core.List.{List, _∷_}
-use Prim.Native.Nat.{ℕ, suc, _+_, _≤_, _<_}
+use Prim.Native.Nat.{ℕ, suc, _+_, _%_, _≤_, _<_}
 use lib.ListN.{length, getD}
-use Rattle.inkfile.specs.Kinds.{kindOf, due, sized}
 use Rattle.inkfile.specs.Format.{Record, mark, headLength, Fields, recordsOf, inkOf, Allowed}
 use Rattle.inkfile.specs.Reading.{kindAt, lengthAt, startOf, ends}
 
 -- ---- by the kind, for a reader and for a writer
 
--- a kind byte that may be that of record k, and n bytes, which the kind allows
-pub record Fitting (k kind n : ℕ) : Type 0 where
-  pub placed : due (kindOf kind) k ≡ true
-  pub measured : sized (kindOf kind) n ≡ true
+-- a kind byte that may be that of record k, counted from 0: 01 to 04 in this order, then up to four remarks of kinds 10 to 1f
+pub data DueKind (k kind : ℕ) : Type 0 where
+  one-of-four : k < 4 → kind ≡ suc k → DueKind k kind
+  a-remark : 4 ≤ k → k < 8 → 0x10 ≤ kind → kind ≤ 0x1f → DueKind k kind
 
--- what is wrong with them, by its number: a kind that is not known or not due, a fifth remark among them; then a length
+-- how many bytes a kind allows
+pub data KindLength (kind n : ℕ) : Type 0 where
+  of-pad-number : kind ≡ 0x01 → n ≡ 8 → KindLength kind n
+  of-iv : kind ≡ 0x02 → n ≡ 16 → KindLength kind n
+  of-sealed : kind ≡ 0x03 → 16 ≤ n → n ≤ 1048576 → n % 16 ≡ 0 → KindLength kind n
+  of-tag : kind ≡ 0x04 → n ≡ 16 → KindLength kind n
+  of-remark : 0x10 ≤ kind → kind ≤ 0x1f → n ≤ 255 → KindLength kind n
+
+-- both, of record k
+pub record Fitting (k kind n : ℕ) : Type 0 where
+  pub placed : DueKind k kind
+  pub measured : KindLength kind n
+
+-- what is wrong with a record, by its number: a kind that is not known or not due, a fifth remark among them; then a length
 pub data KindFault (k kind n : ℕ) : ℕ → Type 0 where
-  undue : due (kindOf kind) k ≡ false → KindFault k kind n 30
-  unsized : due (kindOf kind) k ≡ true → sized (kindOf kind) n ≡ false → KindFault k kind n 31
+  undue : (DueKind k kind → ⊥) → KindFault k kind n 30
+  unsized : DueKind k kind → (KindLength kind n → ⊥) → KindFault k kind n 31
 
 -- ---- a reader
 

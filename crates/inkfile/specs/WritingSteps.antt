@@ -1,7 +1,7 @@
 -- What the inner functions of writing answer.
 use mathlib.Core.Bool.{cond}
 use mathlib.Core.List.{List, [], _++_}
-use Prim.Native.Nat.{ℕ, _+_}
+use Prim.Native.Nat.{ℕ, _+_, _*_}
 use lib.Dec.{eqb, leb}
 use lib.ListN.{length, getD}
 use Rattle.inkfile.specs.Kinds.{faultOf}
@@ -37,7 +37,7 @@ unfoldable pub fixedBytes : List ℕ → List ℕ → List ℕ → List ℕ → 
 fixedBytes padNumber iv sealed tag = ((recordOf (0x01, padNumber) ++ recordOf (0x02, iv)) ++ recordOf (0x03, sealed)) ++ recordOf (0x04, tag)
 
 abbrev pub fixedSize : ℕ → ℕ → ℕ → ℕ → ℕ
-fixedSize padNumber iv sealed tag = 24 + padNumber + iv + sealed + tag
+fixedSize padNumber iv sealed tag = 4 * headLength + padNumber + iv + sealed + tag
 
 unfoldable pub remarksBytes : List ℕ → List ℕ → List ℕ → List ℕ → List ℕ → List ℕ
 remarksBytes kinds b0 b1 b2 b3 = ((remarkBytes kinds 0 b0 ++ remarkBytes kinds 1 b1) ++ remarkBytes kinds 2 b2) ++ remarkBytes kinds 3 b3

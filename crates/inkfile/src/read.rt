@@ -111,7 +111,7 @@ fn goes_on(left: usize, k: usize) -> bool
     left != 0
 }
 
-// All records of a file; a ninth is refused by its kind, whichever it has.
+// All records of a file; a ninth is refused, whatever it is.
 fn all_records(file: &[u8]) -> Records
     ensures { λ r. ⌜ S.recordsTold r ≡ S.recordsAnswer (now (file .entry)) ⌝ }
 {

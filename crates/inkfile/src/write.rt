@@ -143,14 +143,14 @@ pub fn write_ink(
     r3: &[u8],
     out: &mut [u8],
 ) -> Written
-    ensures { λ r. ⌜ (writtenOf r, now (out .exit)) ≡ W.writeInkAnswer (W.given (now (number .entry)) (now (iv .entry)) (now (sealed .entry)) (now (tag .entry)) (now (kinds .entry)) (now (r0 .entry) ∷ now (r1 .entry) ∷ now (r2 .entry) ∷ now (r3 .entry) ∷ [])) (now (out .entry)) ⌝ }
+    ensures { λ r. ⌜ (writtenOf r, now (out .exit)) ≡ W.writeInkAnswer (W.fieldsGiven (now (number .entry)) (now (iv .entry)) (now (sealed .entry)) (now (tag .entry)) (now (kinds .entry)) (now (r0 .entry) ∷ now (r1 .entry) ∷ now (r2 .entry) ∷ now (r3 .entry) ∷ [])) (now (out .entry)) ⌝ }
 {
     let rest = remarks_fault(kinds, r0.len(), r1.len(), r2.len(), r3.len());
     let judged = fields_fault(number.len(), iv.len(), sealed.len(), tag.len(), rest);
     if let Outcome::Refused(why) = judged {
         return Written::Refused(why);
     }
-    let n = 64
+    let n = layout::FIXED
         + sealed.len()
         + remark_size(kinds, 0, r0)
         + remark_size(kinds, 1, r1)

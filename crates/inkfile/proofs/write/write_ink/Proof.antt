@@ -4,12 +4,12 @@ use mathlib.Core.List.{[], _∷_}
 use native.Mathlib.Omega.{arith}
 use borrow.Author.Needs.{needs}
 use lib.ListN.{length}
-use Rattle.inkfile.specs.Writing.{given}
+use Rattle.inkfile.specs.Writing.{fieldsGiven}
 use Rattle.inkfile.specs.Format.{Fields, Allowed}
 use Rattle.inkfile.specs.WritingSteps.{fixedBytes}
 use Rattle.lists.proofs.OverlayLaws.{length-overlaid}
 use Rattle.inkfile.proofs.PutLaws.{length-fixed}
-use Rattle.inkfile.proofs.WriteInkLaws.{write-refused, write-allowed, sizes, write-no-room, write-all}
+use Rattle.inkfile.proofs.WriteInkLaws.{call-refused, call-allowed, sizes, write-no-room, write-all}
 use Rattle.inkfile.proofs.write.write_ink.Statement.{statement}
 use Rattle.inkfile.proofs.write.write_ink.Tie as tie
 
@@ -21,18 +21,18 @@ begun c = c .before .before .before .before .before .before .before .before .bef
 abbrev fields : tie.Start → Fields
 fields s =
     let a = s .args in
-    given (a .number .now) (a .iv .now) (a .sealed .now) (a .tag .now) (a .kinds .now) (a .r0 .now ∷ a .r1 .now ∷ a .r2 .now ∷ a .r3 .now ∷ [])
+    fieldsGiven (a .number .now) (a .iv .now) (a .sealed .now) (a .tag .now) (a .kinds .now) (a .r0 .now ∷ a .r1 .now ∷ a .r2 .now ∷ a .r3 .now ∷ [])
 
 allowed : (c : tie.After-enum-told) → Allowed (fields (begun (c .before .before)))
 allowed c =
     let f = c .before .before in
-    write-allowed _ _ _ _ _ _ _ _ _ (f .before .remarks-fault .result) (f .fields-fault .result) (f .before .remarks-fault .ensures) (f .fields-fault .ensures) (c .enum-told .given .1)
+    call-allowed _ _ _ _ _ _ _ _ _ (f .before .remarks-fault .result) (f .fields-fault .result) (f .before .remarks-fault .ensures) (f .fields-fault .ensures) (c .enum-told .given .1)
 
 returns : tie.Need-returns
 returns c =
     let j = c .before in
     let f = j .before .before in
-    write-refused _ _ _ _ _ _ _ _ _ (f .before .remarks-fault .result) (f .fields-fault .result) (f .before .remarks-fault .ensures) (f .fields-fault .ensures) _ (j .judged .given .1) _
+    call-refused _ _ _ _ _ _ _ _ _ (f .before .remarks-fault .result) (f .fields-fault .result) (f .before .remarks-fault .ensures) (f .fields-fault .ensures) _ (j .judged .given .1) _
 
 add-n-2 : tie.Need-add-n-2
 add-n-2 c =
@@ -78,7 +78,10 @@ put-remarks-requires c κs =
     let f = length-fixed (a .number .now) (a .iv .now) (a .sealed .now) (a .tag .now) in
     let l = ap length (p .put-fixed .ensures .1)
     ∙ length-overlaid (a .out .now) 0 (fixedBytes (a .number .now) (a .iv .now) (a .sealed .now) (a .tag .now)) (omega (arith, f, z .number8, z .iv16, z .tag16, e .if1 .left)) in
-    omega (arith, l, p .put-fixed .ensures .0, z .number8, z .iv16, z .tag16, e .if1 .left, r .before .before .before .remark-size .ensures, r .before .before .remark-size2 .ensures, r .before .remark-size3 .ensures, r .remark-size4 .ensures)
+    let s0 = r .before .before .before .remark-size .ensures in
+    let s1 = r .before .before .remark-size2 .ensures in
+    let s2 = r .before .remark-size3 .ensures in
+    omega (arith, l, p .put-fixed .ensures .0, z .number8, z .iv16, z .tag16, e .if1 .left, s0, s1, s2, r .remark-size4 .ensures)
 
 returns-3 : tie.Need-returns-3
 returns-3 c =
