@@ -5,7 +5,7 @@ ghost use Rattle.bowlinette.specs.Into.{into, kept};
 ghost use Rattle.bowlinette.specs.Ink.{inkNumbers};
 ghost use Rattle.inkfile.specs.Reading.{readInkAnswer};
 ghost use Rattle.inkfile.specs.ReadingSteps.{inkTold};
-ghost use Rattle.inkfile.specs.Writing.{given, writeInkAnswer};
+ghost use Rattle.inkfile.specs.Writing.{fieldsGiven, writeInkAnswer};
 use crate::deliver_length;
 use inkfile::read::Ink;
 
@@ -68,7 +68,7 @@ pub extern "C" fn bowlinette_write_ink(
     out: &mut [u8],
     length: &mut u64,
 ) -> u32
-    ensures { λ r. ⌜ ((r, now (length .exit)), now (out .exit)) ≡ kept (writeInkAnswer (given (now (number .entry)) (now (iv .entry)) (now (sealed .entry)) (now (tag .entry)) (now (kinds .entry)) (now (r0 .entry) ∷ now (r1 .entry) ∷ now (r2 .entry) ∷ now (r3 .entry) ∷ [])) (now (out .entry))) (now (length .entry)) ⌝ }
+    ensures { λ r. ⌜ ((r, now (length .exit)), now (out .exit)) ≡ kept (writeInkAnswer (fieldsGiven (now (number .entry)) (now (iv .entry)) (now (sealed .entry)) (now (tag .entry)) (now (kinds .entry)) (now (r0 .entry) ∷ now (r1 .entry) ∷ now (r2 .entry) ∷ now (r3 .entry) ∷ [])) (now (out .entry))) (now (length .entry)) ⌝ }
 {
     let written = inkfile::write::write_ink(number, iv, sealed, tag, kinds, r0, r1, r2, r3, out);
     deliver_length(written, length)

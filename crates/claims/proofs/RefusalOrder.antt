@@ -1,7 +1,7 @@
 -- Lowest number first: the tests of each operation follow document 01's order of refusals (specs/Order), as their numbers show.
 use mathlib.Core.Path.{_≡_, refl}
 use mathlib.Core.Bool.{Bool, true}
-use mathlib.Core.List.{List, _++_}
+use mathlib.Core.List.{List}
 use Prim.Native.Nat.{ℕ}
 use Rattle.lists.specs.Refusals.{standsIn, standsBefore, noneBefore, follows}
 use Rattle.lists.proofs.OrderLaws.{goes-by}
@@ -9,7 +9,7 @@ use Rattle.cipher.specs.KeySize.{bookLength}
 use Rattle.cipher.specs.Lengths.{roundLength}
 use Rattle.cipher.specs.Refusal.{refusalOrder}
 use Rattle.cipher.specs.Chain.{setTests, chainTestsBy}
-use Rattle.cipher.specs.Answers.{keyTests, keyBlockTests, chainCheckTests, roomTests}
+use Rattle.cipher.specs.Answers.{keyTests, keyBlockTests, chainCheckTests}
 use Rattle.book.specs.Answers.{buildTests, buildTestsBy}
 use Rattle.reading.specs.Book.{readingBookLength}
 use Rattle.reading_book.specs.Answers.{readingChainCheckTests}
@@ -17,10 +17,9 @@ use Rattle.reader.specs.Answers.{readTests}
 use Rattle.pad.specs.Answers.{codingTests}
 use Rattle.driver.specs.Driver.{bookTests, runRoundTests, runRoundsTests, sealTests, blockCallTests, lastCallTests}
 use Rattle.archive.specs.Archive.{allOpenTests, checkTests}
-use Rattle.inkfile.specs.Kinds.{kindTests}
 use Rattle.inkfile.specs.Reading.{recordTests}
 use Rattle.claims.specs.Model.{Call, blockCall, lastCall, State, refusals}
-use Rattle.claims.specs.Order.{InOrder, Order}
+use Rattle.claims.specs.Order.{InOrder, fieldTests, Order}
 
 in-order : (ts : List (Bool × ℕ)) → follows refusalOrder ts ≡ true → InOrder ts
 in-order ts f = goes-by refusalOrder ts f
@@ -43,7 +42,7 @@ order = record {
   building-reading = λ key ch out. in-order (buildTestsBy 3 0 key ch out readingBookLength) refl;
   reading = λ bk iv sealed out. in-order (readTests bk iv sealed out) refl;
   ink-record = λ file k at. in-order (recordTests file k at) refl;
-  ink-field = λ k kind n length out. in-order (kindTests k kind n ++ roomTests length out) refl;
+  ink-field = λ k kind n length out. in-order (fieldTests k kind n length out) refl;
   code = λ u n total room. in-order (codingTests u n total room) refl;
   run-round = λ t b. in-order (runRoundTests t b) refl;
   run-rounds = λ bk b. in-order (runRoundsTests bk b) refl;

@@ -1,5 +1,5 @@
 -- Lowest number first (document 01, "Refusals from the input" and "from the state"): the refusals of every operation go by one order
--- of the numbers.
+-- of the numbers; those of an ink file at each record.
 use mathlib.Core.Bool.{Bool}
 use mathlib.Core.List.{List, _++_}
 use Prim.Native.Nat.{ℕ}
@@ -25,6 +25,10 @@ use Rattle.claims.specs.Model.{Call, State, refusals}
 abbrev pub InOrder : List (Bool × ℕ) → Type 1
 InOrder ts = GoesBy refusalOrder ts
 
+-- one field of an ink file, record k with a kind byte and n bytes, and after it a buffer for `length` bytes
+abbrev pub fieldTests : ℕ → ℕ → ℕ → ℕ → List ℕ → List (Bool × ℕ)
+fieldTests k kind n length out = kindTests k kind n ++ roomTests length out
+
 -- each operation, by the list of tests that the definition of its answer names
 pub record Order : Type 1 where
   -- LEA: enciphering, deciphering and the first rounds; and the round keys
@@ -43,7 +47,7 @@ pub record Order : Type 1 where
   -- ink files: at a record of a file, and at one of a writer's fields with the buffer after it. Of several records the first at fault
   -- decides (`InkLaws` of inkfile)
   pub ink-record : (file : List ℕ) (k at : ℕ) → InOrder (recordTests file k at)
-  pub ink-field : (k kind n : ℕ) (length : ℕ) (out : List ℕ) → InOrder (kindTests k kind n ++ roomTests length out)
+  pub ink-field : (k kind n length : ℕ) (out : List ℕ) → InOrder (fieldTests k kind n length out)
   -- the pad, for sealing and for a tag: a message of n bytes, of which `total` are written into a buffer of `room` bytes
   pub code : (u : List ℕ) (n total room : ℕ) → InOrder (codingTests u n total room)
   -- the driver

@@ -1,4 +1,5 @@
 -- `ink::numbers` meets its contract.
+use mathlib.Core.Path.{refl}
 use borrow.Author.Needs.{needs}
 use Rattle.bowlinette.specs.Ink.{inkNumbers}
 use Rattle.bowlinette.proofs.ink.numbers.Statement.{statement}
@@ -6,7 +7,7 @@ use Rattle.bowlinette.proofs.ink.numbers.Tie as tie
 
 returns : tie.Need-returns
 unfolding inkNumbers
-returns c = search needs
+returns c = refl
 
 pub numbers-spec : {M : Type 1} → statement M
 numbers-spec =
