@@ -4,8 +4,9 @@
  * sessions and ink files, docs/SECURITY.md what a caller must see to.
  *
  * Every function but bowlinette_is_valid returns 0, or the number of a refusal. Where several refusals
- * apply, the lowest number is returned; of an ink file the first record at fault decides. After a refusal nothing behind any pointer has changed; after a
- * success only what the function's pointers that are not to const refer to has.
+ * apply, the lowest number is returned; of an ink file, the number of the first record at fault, and 9 comes
+ * last. After a refusal nothing behind any pointer has changed; after a success only what the function's
+ * pointers that are not to const refer to has.
  *
  * All lengths count bytes. No pointer may be null, also where its length is 0, and what is written
  * must not overlap what is read. The functions keep nothing between calls and use no heap, so several
@@ -43,8 +44,8 @@ extern "C" {
 #define BOWLINETTE_REFUSED_PADDING 11       /* what was opened does not end in padding */
 #define BOWLINETTE_REFUSED_FINISHED 21      /* a block or last call on a finished session */
 #define BOWLINETTE_REFUSED_LIMIT 22         /* a block call after 65,535 accepted ones */
-#define BOWLINETTE_REFUSED_RECORD 30        /* of an ink file, a record's mark, kind or order, a record that is
-                                               missing or cut short, or a fifth remark */
+#define BOWLINETTE_REFUSED_RECORD 30        /* of an ink file, a record's mark, kind or order, a record that
+                                               is missing, its head cut short, or a fifth remark */
 #define BOWLINETTE_REFUSED_RECORD_LENGTH 31 /* a record's length is not allowed, or past the file's end */
 
 /* A block, in bytes, and the round keys of one round, in 32-bit words. */
@@ -182,8 +183,8 @@ static inline const char *bowlinette_text(uint32_t refusal)
     case BOWLINETTE_REFUSED_LIMIT:
         return "The session has taken 65,535 block calls.";
     case BOWLINETTE_REFUSED_RECORD:
-        return "A record of the ink file has a wrong mark, kind or place, is missing or cut short, or "
-               "is a fifth remark.";
+        return "A record of the ink file has a wrong mark, kind or place, is missing, has its first six "
+               "bytes cut short, or is a fifth remark.";
     case BOWLINETTE_REFUSED_RECORD_LENGTH:
         return "A record of the ink file has a length that its kind does not allow, or that goes past "
                "the end of the file.";
@@ -447,25 +448,27 @@ typedef struct bowlinette_ink {
 } bowlinette_ink;
 
 /*
- * Reads an ink file: writes to ink the 18 numbers that a bowlinette_ink has, in its order; a struct is given
- * as (uint64_t *)&ink. Only the heads of records are looked at.
+ * Reads an ink file: writes to ink the 18 numbers that a bowlinette_ink has, in its order; a struct is
+ * given as (uint64_t *)&ink. Only the heads of records are looked at.
  * Goes record by record. Refuses, at the first record at fault, 30 (fewer than six bytes left, no mark, a
- * kind that is not known or not due there, a fifth remark; also a file that ends before its tag), then 31
- * (a length that the kind does not allow, or past the file's end).
+ * kind that is not known or not due there, a fifth remark; also a file that ends where one of the first
+ * four records is due), then 31 (a length that the kind does not allow, or past the file's end).
  * TAKE CARE: a file that is read has the form of an ink file, no more: anyone can write one. Its tag is
- * checked where the key is.
+ * checked where the key is, and speaks of the message alone, not of pad number and remarks. A remark is any
+ * bytes, zeros among them, and no C string.
  */
 uint32_t bowlinette_read_ink(const uint8_t *file, size_t file_length,
                              uint64_t ink[BOWLINETTE_INK_NUMBERS]);
 
 /*
  * Writes an ink file to the front of out, which may be longer: the bytes after it stay as they were. kinds
- * has a byte for each remark; the bytes of the first are remark0, and so on, and remarks past the length of
- * kinds are not looked at. How many bytes were written goes to length: 64 and the sealed bytes, and for
- * each remark 6 and its bytes.
- * Goes record by record, as reading does. Refuses 31 (pad number not of 8 bytes, IV not of 16, sealed blocks
- * empty, over 1,048,576 bytes or no multiple of 16, tag not of 16), for each remark 30 (kind not hex 10 to
- * 1f) and then 31 (over 255 bytes), 30 (a fifth remark), then 9 (out too short).
+ * has a byte for each remark; the bytes of the first are remark0, and so on. Remarks past the length of
+ * kinds are not looked at, but their pointers may not be null either. How many bytes were written goes to
+ * length: 64 and the sealed bytes, and for each remark 6 and its bytes.
+ * Goes record by record, as reading does. Refuses 31 (pad number not of 8 bytes, IV not of 16, sealed
+ * blocks empty, over 1,048,576 bytes or no multiple of 16, tag not of 16), for each remark 30 (kind not hex
+ * 10 to 1f) and then 31 (over 255 bytes), 30 (a fifth remark), then 9 (out too short).
+ * TAKE CARE: pad number and remarks stand in the file as they are given, for everyone to read and to change.
  */
 uint32_t bowlinette_write_ink(const uint8_t *pad_number, size_t pad_number_length,
                               const uint8_t *iv, size_t iv_length,

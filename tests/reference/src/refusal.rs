@@ -27,7 +27,7 @@ pub const PADDING: u32 = 11;
 pub const FINISHED: u32 = 21;
 /// A block call after 65,535 of them.
 pub const LIMIT: u32 = 22;
-/// A mark, kind or order of records that is none, a record missing or its head cut short, a fifth remark.
+/// A mark, kind or order other than the format's, a record missing or its head cut short, a fifth remark.
 pub const RECORD: u32 = 30;
 /// The length of a record is not allowed for its kind, or past the file's end.
 pub const RECORD_LENGTH: u32 = 31;
