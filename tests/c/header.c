@@ -149,6 +149,35 @@ static void archive(const uint8_t *key, size_t length)
     printf(" %d\n", number == BOWLINETTE_REFUSED_BLOCK_LENGTH);
 }
 
+/* An ink file of one sealed block and two remarks written and read, and parts of it refused. */
+static void ink_file(void)
+{
+    static const uint8_t bytes[] = "sixteen bytes or more of ink, or of anything";
+    static const uint8_t kinds[] = {BOWLINETTE_INK_REMARK_LAST, BOWLINETTE_INK_REMARK_FIRST};
+    const size_t one = BOWLINETTE_BLOCK_LENGTH, eight = BOWLINETTE_PAD_NUMBER_LENGTH;
+    uint8_t file[7 * BOWLINETTE_BLOCK_LENGTH] = {0};
+    bowlinette_ink ink = {0};
+    uint64_t n = 0;
+    uint32_t number;
+    size_t i;
+
+    number = bowlinette_write_ink(bytes, eight, bytes + 1, one, bytes + 2, one, bytes + 3, one, kinds, sizeof kinds,
+                                  bytes + 4, 5, bytes, 0, bytes, 9, bytes, 9, file, sizeof file, &n);
+    for (i = 0; i < n; i += one)
+        show(number, file + i);
+    number = bowlinette_read_ink(file, n, (uint64_t *)&ink);
+    printf("%d", number == BOWLINETTE_DONE);
+    for (i = 0; i < BOWLINETTE_INK_NUMBERS; i++)
+        printf(" %lu", (unsigned long)((const uint64_t *)&ink)[i]);
+    number = bowlinette_read_ink(file, n - 1, (uint64_t *)&ink);
+    printf("\n%d", number == BOWLINETTE_REFUSED_RECORD);
+    number = bowlinette_read_ink(file, n - BOWLINETTE_INK_HEAD_LENGTH - 1, (uint64_t *)&ink);
+    printf(" %d", number == BOWLINETTE_REFUSED_RECORD_LENGTH);
+    number = bowlinette_write_ink(bytes, eight, bytes + 1, one, bytes + 2, one, bytes + 3, one, kinds, sizeof kinds,
+                                  bytes + 4, 5, bytes, 0, bytes, 9, bytes, 9, file, n - 1, &n);
+    printf(" %d\n", number == BOWLINETTE_REFUSED_ROOM);
+}
+
 int main(void)
 {
     uint8_t key[BOWLINETTE_KEY_LENGTH_256], block[BOWLINETTE_BLOCK_LENGTH + 1];
@@ -183,5 +212,6 @@ int main(void)
     driver();
     reading(key, sizeof key);
     archive(key, sizeof key);
+    ink_file();
     return 0;
 }

@@ -1,12 +1,13 @@
 /*
  * The C library as a bank's programs would use it: for each key size a message goes the whole way from
- * the pad over the driver to a reader and to the archive, and every function is made to give each of its
- * refusals. After a refusal nothing that was lent may have changed; after a success nothing after what is
- * written.
+ * the pad over the driver to a reader and, in an ink file, to the archive, and every function is made to
+ * give each of its refusals. After a refusal nothing that was lent may have changed; after a success
+ * nothing after what is written.
  * Prints how many checks there were and how many of them failed.
  */
 #include "bowlinette.h"
 #include <stdio.h>
+#include <stdlib.h>
 #include <string.h>
 
 #define BLOCK BOWLINETTE_BLOCK_LENGTH
@@ -28,11 +29,12 @@ static void check(int holds, const char *what, unsigned long where)
 
 #define CHECK(holds) check((holds) != 0, #holds, __LINE__)
 
-/* A buffer that is longer than what is written to it, and a function's places for a length and a kind. */
+/* A buffer that is longer than what is written to it, and a function's places for what it tells beside it. */
 struct room {
-    uint8_t bytes[LONGEST + 1 + BLOCK];
+    uint8_t bytes[BOWLINETTE_INK_LENGTH_MAX + BLOCK];
     uint64_t length;
     uint8_t small;
+    bowlinette_ink ink;
 };
 
 static struct room room;
@@ -42,13 +44,14 @@ static void fresh(void)
     memset(&room, FILL, sizeof room);
 }
 
-/* Whether all of the room from byte n on, and the two places beside it, are as they were. */
+/* Whether all of the room from byte n on, and the three places beside it, are as they were. */
 static int untouched(size_t n)
 {
     static struct room before;
     memset(&before, FILL, sizeof before);
     return memcmp(room.bytes + n, before.bytes + n, sizeof room.bytes - n) == 0
-        && room.length == before.length && room.small == before.small;
+        && room.length == before.length && room.small == before.small
+        && memcmp(&room.ink, &before.ink, sizeof room.ink) == 0;
 }
 
 /* A call that must be refused with the number, and must have changed nothing in the room. */
@@ -75,6 +78,7 @@ static uint8_t reading_chain[BOWLINETTE_CHAIN_LENGTH_256 + 1], reading[BOWLINETT
 /* Coded and sealed texts have room for a block more than the longest. */
 static uint8_t message[LONGEST + 1], coded[LONGEST + 1 + BLOCK], sealed[LONGEST + 1 + BLOCK], tag[BLOCK];
 static const uint8_t iv[BLOCK] = {3, 1, 4, 1, 5, 9, 2, 6, 5, 3, 5, 8, 9, 7, 9, 3};
+static uint8_t file[BOWLINETTE_INK_LENGTH_MAX + BLOCK];
 static uint64_t coded_length, sealed_length;
 static uint8_t kind;
 
@@ -196,6 +200,32 @@ static void reader(const struct size *s, size_t n)
     CHECK(length == coded_length && memcmp(room.bytes, coded, coded_length) == 0 && untouched(coded_length));
 }
 
+/* What was sealed goes into an ink file with two remarks, is found in it again, opens, and is valid. */
+static void ink_file(const struct size *s, size_t n)
+{
+    static const uint8_t kinds[] = {BOWLINETTE_INK_REMARK_LAST, BOWLINETTE_INK_REMARK_FIRST}, number[] = "pad no 7";
+    const uint8_t *set = chain + BOWLINETTE_CHAIN_SET(s->rounds);
+    bowlinette_ink ink = {0};
+    uint64_t length = 0;
+
+    fresh();
+    CHECK(bowlinette_write_ink(number, 8, iv, BLOCK, sealed, sealed_length, tag, BLOCK, kinds, 2, number, 3, number, 0, message, 999, message, 999, room.bytes, sizeof room.bytes, &length) == BOWLINETTE_DONE);
+    CHECK(length == 64 + sealed_length + 2 * BOWLINETTE_INK_HEAD_LENGTH + 3 && untouched(length));
+    memcpy(file, room.bytes, length);
+    CHECK(bowlinette_read_ink(file, length, (uint64_t *)&ink) == BOWLINETTE_DONE);
+    CHECK(memcmp(file + ink.pad_number, number, BOWLINETTE_PAD_NUMBER_LENGTH) == 0);
+    CHECK(memcmp(file + ink.iv, iv, BLOCK) == 0 && memcmp(file + ink.tag, tag, BLOCK) == 0);
+    CHECK(ink.sealed_length == sealed_length && memcmp(file + ink.sealed, sealed, sealed_length) == 0);
+    CHECK(ink.remarks == 2 && ink.kinds[0] == kinds[0] && ink.kinds[1] == kinds[1]);
+    CHECK(ink.lengths[0] == 3 && memcmp(file + ink.offsets[0], number, 3) == 0);
+    CHECK(ink.lengths[1] == 0 && ink.offsets[1] == length);
+    CHECK(ink.kinds[2] + ink.kinds[3] + ink.offsets[2] + ink.offsets[3] + ink.lengths[2] + ink.lengths[3] == 0);
+    fresh();
+    CHECK(bowlinette_open(key, s->key, set, SET, file + ink.iv, BLOCK, file + ink.sealed, ink.sealed_length, room.bytes, sizeof room.bytes, &length) == BOWLINETTE_DONE);
+    CHECK(length == n && memcmp(room.bytes, message, n) == 0);
+    CHECK(bowlinette_is_valid(key, s->key, set, SET, room.bytes, length, file + ink.tag, BLOCK) == 1);
+}
+
 /* What was sealed opens to the message, and its tag is valid; one bit less is not. */
 static void archive(const struct size *s, size_t n)
 {
@@ -230,7 +260,7 @@ static void offsets(const struct size *s)
 /* Every number has a sentence of its own, and a number that is none says so. */
 static void texts(void)
 {
-    static const uint32_t numbers[] = {0, 1, 2, 3, 4, 5, 6, 7, 8, 9, 10, 11, 21, 22, 99};
+    static const uint32_t numbers[] = {0, 1, 2, 3, 4, 5, 6, 7, 8, 9, 10, 11, 21, 22, 30, 31, 99};
     size_t i, k;
 
     for (i = 0; i < sizeof numbers / sizeof numbers[0]; i++)
@@ -451,6 +481,237 @@ static void refusals_of_the_archive(const struct size *s)
     CHECK(bowlinette_is_valid(key, s->key, set, SET, message, LONGEST + 1, tag, BLOCK) == 0);
 }
 
+/* The struct that tells of an ink file has its 18 numbers one behind the other, in the order of the header. */
+static void ink_numbers(void)
+{
+    CHECK(sizeof(bowlinette_ink) == 144 && BOWLINETTE_INK_NUMBERS == 18);
+    CHECK(offsetof(bowlinette_ink, pad_number) == 0);
+    CHECK(offsetof(bowlinette_ink, iv) == 8);
+    CHECK(offsetof(bowlinette_ink, sealed) == 16);
+    CHECK(offsetof(bowlinette_ink, sealed_length) == 24);
+    CHECK(offsetof(bowlinette_ink, tag) == 32);
+    CHECK(offsetof(bowlinette_ink, remarks) == 40);
+    CHECK(offsetof(bowlinette_ink, kinds) == 48);
+    CHECK(offsetof(bowlinette_ink, offsets) == 80);
+    CHECK(offsetof(bowlinette_ink, lengths) == 112);
+}
+
+/* The lengths of the fields of an ink file, how many remarks it has, and the length of its buffer. */
+struct fields {
+    size_t pad_number, iv, sealed, tag, remarks, lengths[BOWLINETTE_REMARKS_MAX], out;
+};
+
+/* Right ones, and the kinds of remarks that go with all. */
+static const struct fields right = {8, BLOCK, 3 * BLOCK, BLOCK, 4, {0, 15, 255, 1}, sizeof room.bytes};
+static uint8_t kinds[] = {0x1f, 0x10, 0x10, 0x1a, 0x10, 0x10};
+
+/* How many bytes a file of these fields has. */
+static size_t file_length(const struct fields *f)
+{
+    size_t k, length = 4 * BOWLINETTE_INK_HEAD_LENGTH + f->pad_number + f->iv + f->sealed + f->tag;
+
+    for (k = 0; k < f->remarks && k < BOWLINETTE_REMARKS_MAX; k++)
+        length += BOWLINETTE_INK_HEAD_LENGTH + f->lengths[k];
+    return length;
+}
+
+/* Writes them to the room: parts of the message, and what was sealed. */
+static uint32_t write_fields(const struct fields *f, uint64_t *length)
+{
+    return bowlinette_write_ink(message + 1, f->pad_number, message + 50, f->iv, sealed, f->sealed, message + 100, f->tag,
+                                kinds, f->remarks, message + 200, f->lengths[0], message + 500, f->lengths[1],
+                                message + 800, f->lengths[2], message + 1100, f->lengths[3], room.bytes, f->out, length);
+}
+
+/* Fields that must be refused with the number, or written where that is 0. */
+static void fields(uint32_t number, const struct fields *f, unsigned long where)
+{
+    uint64_t length = 0;
+
+    fresh();
+    if (number != BOWLINETTE_DONE) {
+        check(write_fields(f, &room.length) == number, "the number of fields refused", where);
+        check(untouched(0), "what is lent for fields refused", where);
+    } else {
+        check(write_fields(f, &length) == number, "the number of fields", where);
+        check(length == file_length(f) && untouched(length), "the length of fields", where);
+    }
+}
+
+/* The right fields, but for one part and then for another. */
+#define FIELDS(number, part, n, other, m) \
+    do {                                  \
+        struct fields f = right;          \
+        f.part = (n);                     \
+        f.other = (m);                    \
+        fields(number, &f, __LINE__);     \
+    } while (0)
+#define FIELD(number, part, n) FIELDS(number, part, n, part, n)
+
+/* Refusals 30, 31 and 9 of writing, with their neighbours. */
+static void refusals_of_writing_ink(void)
+{
+    static const size_t lengths[] = {0, 7, 8, 9, 15, 16, 17, 32};
+    static const size_t blocks[] = {16, 32, 1048560, 1048576}, no_blocks[] = {0, 15, 17, 1048575, 1048577, 1048592};
+    const size_t n = file_length(&right);
+    size_t i, k;
+
+    for (i = 0; i < sizeof lengths / sizeof lengths[0]; i++) {
+        FIELD(lengths[i] == BOWLINETTE_PAD_NUMBER_LENGTH ? 0 : 31, pad_number, lengths[i]);
+        FIELD(lengths[i] == BLOCK ? 0 : 31, iv, lengths[i]);
+        FIELD(lengths[i] == BLOCK ? 0 : 31, tag, lengths[i]);
+    }
+    for (i = 0; i < sizeof blocks / sizeof blocks[0]; i++)
+        FIELD(0, sealed, blocks[i]);
+    for (i = 0; i < sizeof no_blocks / sizeof no_blocks[0]; i++)
+        FIELD(31, sealed, no_blocks[i]);
+    for (k = 0; k < BOWLINETTE_REMARKS_MAX; k++) {
+        FIELD(0, lengths[k], 0);
+        FIELD(0, lengths[k], BOWLINETTE_REMARK_LENGTH_MAX);
+        FIELD(31, lengths[k], BOWLINETTE_REMARK_LENGTH_MAX + 1);
+        FIELDS(0, lengths[k], 1000, remarks, k);
+    }
+    FIELD(30, remarks, 5);
+    FIELD(30, remarks, 6);
+    FIELD(0, out, n);
+    FIELD(9, out, n - 1);
+    FIELD(9, out, 0);
+}
+
+/* The kinds of remarks, and which of several faults is told. */
+static void refusals_of_remarks(void)
+{
+    unsigned k, kind;
+
+    for (k = 0; k < BOWLINETTE_REMARKS_MAX; k++) {
+        const uint8_t was = kinds[k];
+        for (kind = 0; kind < 256; kind++) {
+            kinds[k] = (uint8_t)kind;
+            fields(kind < BOWLINETTE_INK_REMARK_FIRST || kind > BOWLINETTE_INK_REMARK_LAST ? 30 : 0, &right, __LINE__);
+        }
+        FIELD(30, lengths[k], 256);
+        FIELDS(31, tag, 17, out, 0);
+        FIELDS(30, remarks, 5, out, 0);
+        if (k > 0)
+            FIELD(31, lengths[k - 1], 256);
+        if (k < 3)
+            FIELD(30, lengths[k + 1], 256);
+        kinds[k] = was;
+    }
+    FIELDS(31, pad_number, 7, lengths[0], 256);
+    FIELDS(31, lengths[3], 256, remarks, 5);
+    FIELDS(31, lengths[0], 256, out, 0);
+    FIELDS(30, remarks, 5, out, 0);
+}
+
+/* A part of the file read from a copy of just so many bytes: refused with the number, or accepted where that is 0. */
+static void read_part(uint32_t number, size_t n)
+{
+    uint8_t *copy = malloc(n + (n == 0));
+    bowlinette_ink ink;
+
+    CHECK(copy != NULL);
+    memcpy(copy, file, n);
+    if (number != BOWLINETTE_DONE)
+        REFUSED(number, bowlinette_read_ink(copy, n, (uint64_t *)&room.ink));
+    else
+        CHECK(bowlinette_read_ink(copy, n, (uint64_t *)&ink) == BOWLINETTE_DONE);
+    CHECK(memcmp(copy, file, n) == 0);
+    free(copy);
+}
+
+/* The file with a byte changed. */
+static void read_changed(uint32_t number, size_t n, size_t at, unsigned with)
+{
+    const uint8_t was = file[at];
+
+    file[at] = (uint8_t)with;
+    read_part(number, n);
+    file[at] = was;
+}
+
+/* Writes the right fields to the file, and says where its records begin, and where the last one ends. */
+static size_t right_file(size_t begins[9])
+{
+    const size_t lengths[8] = {right.pad_number, right.iv, right.sealed, right.tag,
+                               right.lengths[0], right.lengths[1], right.lengths[2], right.lengths[3]};
+    bowlinette_ink ink = {0};
+    uint64_t n = 0;
+    unsigned k;
+
+    for (begins[0] = 0, k = 0; k < 8; k++)
+        begins[k + 1] = begins[k] + BOWLINETTE_INK_HEAD_LENGTH + lengths[k];
+    fresh();
+    CHECK(write_fields(&right, &n) == BOWLINETTE_DONE && n == begins[8]);
+    memcpy(file, room.bytes, sizeof file);
+    CHECK(bowlinette_read_ink(file, begins[8], (uint64_t *)&ink) == BOWLINETTE_DONE);
+    CHECK(ink.pad_number == begins[1] - lengths[0] && ink.iv == begins[2] - lengths[1]);
+    CHECK(ink.sealed == begins[3] - lengths[2] && ink.sealed_length == lengths[2]);
+    CHECK(ink.tag == begins[4] - lengths[3] && ink.remarks == BOWLINETTE_REMARKS_MAX);
+    for (k = 0; k < BOWLINETTE_REMARKS_MAX; k++) {
+        CHECK(ink.kinds[k] == kinds[k] && ink.lengths[k] == lengths[4 + k]);
+        CHECK(ink.offsets[k] == begins[5 + k] - lengths[4 + k]);
+    }
+    return begins[8];
+}
+
+/* Refusals 30 and 31 of reading, with their neighbours. */
+static void refusals_of_reading_ink(void)
+{
+    size_t begins[9];
+    const size_t n = right_file(begins);
+    size_t end, k = 0;
+
+    for (end = 0; end <= n; end++) {
+        if (k < 8 && end == begins[k + 1])
+            k++;
+        read_part(end == begins[k] && k >= 4 ? 0 : end < begins[k] + BOWLINETTE_INK_HEAD_LENGTH ? 30 : 31, end);
+    }
+    for (k = 0; k < 8; k++) {
+        CHECK(file[begins[k]] == 0xa5 && file[begins[k] + 1] == (k < 4 ? k + 1 : kinds[k - 4]));
+        read_changed(30, n, begins[k], 0xa4);
+        read_changed(30, n, begins[k] + 1, 0x00);
+        read_changed(30, n, begins[k] + 1, 0x05);
+        read_changed(30, n, begins[k] + 1, 0x0f);
+        read_changed(k < 4 ? 30 : 0, n, begins[k] + 1, BOWLINETTE_INK_REMARK_FIRST);
+        read_changed(k < 4 ? 30 : 0, n, begins[k] + 1, BOWLINETTE_INK_REMARK_LAST);
+        read_changed(30, n, begins[k] + 1, 0x20);
+        read_changed(30, n, begins[k] + 1, 0xff);
+        read_changed(31, n, begins[k] + 4, 1);
+        read_changed(31, n, begins[k] + 5, 1);
+        read_changed(31, n, begins[k] + 5, 0xff);
+    }
+    for (end = 1; end <= 7; end++) {
+        memcpy(file + n, file + begins[4], BOWLINETTE_INK_HEAD_LENGTH);
+        read_part(30, n + end);
+        memmove(file + begins[7], file + begins[4], BOWLINETTE_INK_HEAD_LENGTH);
+        read_part(end == BOWLINETTE_INK_HEAD_LENGTH ? 0 : 30, begins[7] + end);
+        right_file(begins);
+    }
+}
+
+/* The longest file: the header says how many bytes it has. */
+static void the_longest_ink_file(void)
+{
+    const struct fields longest = {8, BLOCK, BOWLINETTE_CODE_LENGTH_MAX, BLOCK, 4, {255, 255, 255, 255}, BOWLINETTE_INK_LENGTH_MAX};
+    struct fields shorter = longest;
+    bowlinette_ink ink = {0};
+    uint64_t n = 0;
+
+    shorter.out--;
+    fields(9, &shorter, __LINE__);
+    fields(0, &longest, __LINE__);
+    CHECK(write_fields(&longest, &n) == BOWLINETTE_DONE && n == BOWLINETTE_INK_LENGTH_MAX);
+    memcpy(file, room.bytes, n);
+    CHECK(bowlinette_read_ink(file, n, (uint64_t *)&ink) == BOWLINETTE_DONE);
+    CHECK(ink.sealed_length == BOWLINETTE_CODE_LENGTH_MAX && memcmp(file + ink.sealed, sealed, ink.sealed_length) == 0);
+    CHECK(ink.lengths[3] == 255 && ink.offsets[3] + ink.lengths[3] == n);
+    CHECK(ink.pad_number == 6 && file[1] == BOWLINETTE_INK_PAD_NUMBER);
+    CHECK(ink.iv == 20 && file[15] == BOWLINETTE_INK_IV);
+    CHECK(ink.sealed == 42 && file[37] == BOWLINETTE_INK_SEALED);
+    CHECK(ink.tag == 42 + BOWLINETTE_CODE_LENGTH_MAX + 6 && file[ink.tag - 5] == BOWLINETTE_INK_TAG);
+}
+
 int main(void)
 {
     static const size_t lengths[] = {0, 1, BLOCK - 1, BLOCK, BLOCK + 1, INK, LONGEST};
@@ -469,6 +730,7 @@ int main(void)
         for (n = 0; n < sizeof lengths / sizeof lengths[0]; n++) {
             seal(s, lengths[n]);
             reader(s, lengths[n]);
+            ink_file(s, lengths[n]);
             archive(s, lengths[n]);
         }
         refusals_of_the_works(s);
@@ -479,6 +741,11 @@ int main(void)
         refusals_of_a_session(s);
         refusals_of_the_archive(s);
     }
+    ink_numbers();
+    refusals_of_writing_ink();
+    refusals_of_remarks();
+    refusals_of_reading_ink();
+    the_longest_ink_file();
     printf("%lu checks through the C interface, %lu failed\n", checks, failures);
     return failures != 0;
 }

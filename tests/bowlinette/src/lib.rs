@@ -186,6 +186,30 @@ mod c {
             tag: *const u8,
             tag_length: usize,
         ) -> u32;
+        pub fn bowlinette_read_ink(file: *const u8, file_length: usize, ink: *mut u64) -> u32;
+        pub fn bowlinette_write_ink(
+            pad_number: *const u8,
+            pad_number_length: usize,
+            iv: *const u8,
+            iv_length: usize,
+            sealed: *const u8,
+            sealed_length: usize,
+            tag: *const u8,
+            tag_length: usize,
+            kinds: *const u8,
+            kinds_length: usize,
+            remark0: *const u8,
+            remark0_length: usize,
+            remark1: *const u8,
+            remark1_length: usize,
+            remark2: *const u8,
+            remark2_length: usize,
+            remark3: *const u8,
+            remark3_length: usize,
+            out: *mut u8,
+            out_length: usize,
+            length: *mut u64,
+        ) -> u32;
         pub fn bowlinette_tag_roundtrip(
             key: *const u8,
             key_length: usize,
@@ -569,6 +593,49 @@ pub fn is_valid(key: &[u8], set: &[u8], message: &[u8], tag: &[u8]) -> u32 {
             message.len(),
             tag.as_ptr(),
             tag.len(),
+        )
+    }
+}
+
+/// Where the fields of an ink file stand, as the numbers that the header names, into ink.
+#[inline]
+pub fn read_ink(file: &[u8], ink: &mut [u64; 18]) -> u32 {
+    unsafe { c::bowlinette_read_ink(file.as_ptr(), file.len(), ink.as_mut_ptr()) }
+}
+
+/// An ink file written from pad number, IV, sealed blocks and tag, the kinds of its remarks and the remarks,
+/// to the front of out, and the length of that, into length.
+#[inline]
+pub fn write_ink(
+    [number, iv, sealed, tag]: [&[u8]; 4],
+    kinds: &[u8],
+    [first, second, third, fourth]: [&[u8]; 4],
+    out: &mut [u8],
+    length: &mut u64,
+) -> u32 {
+    unsafe {
+        c::bowlinette_write_ink(
+            number.as_ptr(),
+            number.len(),
+            iv.as_ptr(),
+            iv.len(),
+            sealed.as_ptr(),
+            sealed.len(),
+            tag.as_ptr(),
+            tag.len(),
+            kinds.as_ptr(),
+            kinds.len(),
+            first.as_ptr(),
+            first.len(),
+            second.as_ptr(),
+            second.len(),
+            third.as_ptr(),
+            third.len(),
+            fourth.as_ptr(),
+            fourth.len(),
+            out.as_mut_ptr(),
+            out.len(),
+            length,
         )
     }
 }

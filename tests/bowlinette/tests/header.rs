@@ -2,6 +2,7 @@
 //! with the static library and run, and must print what the reference says.
 
 use reference::driver::{self, Session};
+use reference::ink::{self, Fields};
 use reference::{book, lea, Size};
 use std::path::Path;
 use std::process::Command;
@@ -47,6 +48,7 @@ fn due() -> Vec<String> {
     lines.push(line(Ok(*b"in ink\0\0\0\0\0\0\0\0\0\0")));
     lines.push("1 1 1".into());
     lines.push("1 1 1 1 1".into());
+    lines.extend(due_ink());
     lines
 }
 
@@ -84,6 +86,29 @@ fn due_reading(key: &[u8]) -> Vec<String> {
     let plain = lea::decipher(key, own).unwrap();
     let text = std::array::from_fn(|k| plain[k] ^ before[k]);
     vec!["1 1 1 1".into(), line(Ok(text)), "1 1".into()]
+}
+
+/// Those of an ink file: its bytes, the numbers that tell of it, and refusals.
+fn due_ink() -> Vec<String> {
+    let bytes = b"sixteen bytes or more of ink, or of anything";
+    let fields = Fields {
+        number: &bytes[..8],
+        iv: &bytes[1..17],
+        sealed: &bytes[2..18],
+        tag: &bytes[3..19],
+        kinds: &[0x1f, 0x10],
+        remarks: [&bytes[4..9], b"", b"", b""],
+    };
+    let mut file = [0; 112];
+    let n = ink::write(&fields, &mut file).unwrap();
+    let parts = file[..n + 15].chunks_exact(16);
+    let mut lines: Vec<String> = parts
+        .map(|part| line(Ok(part.try_into().unwrap())))
+        .collect();
+    let numbers = ink::read(&file[..n]).unwrap().numbers();
+    let numbers: String = numbers.iter().map(|number| format!(" {number}")).collect();
+    lines.extend([format!("1{numbers}"), "1 1 1".into()]);
+    lines
 }
 
 #[test]

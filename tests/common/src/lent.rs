@@ -65,8 +65,22 @@ pub fn both<R>(
 where
     R: PartialEq + Debug,
 {
-    let (given, left) = lent(FILL, room, proved);
-    let mut due = vec![FILL; room];
+    both_over(FILL, name, room, proved, reference)
+}
+
+/// The same with bytes that are filled otherwise.
+pub fn both_over<R>(
+    fill: u8,
+    name: impl Debug,
+    room: usize,
+    proved: impl FnOnce(&mut [u8]) -> Result<R, u32>,
+    reference: impl FnOnce(&mut [u8]) -> Result<R, u32>,
+) -> (Result<R, u32>, Vec<u8>)
+where
+    R: PartialEq + Debug,
+{
+    let (given, left) = lent(fill, room, proved);
+    let mut due = vec![fill; room];
     let want = reference(&mut due);
     assert_eq!(given, want, "{name:?}");
     if left != due {
@@ -74,7 +88,7 @@ where
         panic!("{name:?}: the first byte that differs: {apart:?}");
     }
     if let Err(number) = given {
-        let stays = left.iter().all(|&x| x == FILL);
+        let stays = left.iter().all(|&x| x == fill);
         assert!(stays, "{name:?}: written after {number}");
     }
     (given, left)

@@ -1,4 +1,4 @@
-//! What the tests and the soak share: random keys, chains, books and messages, and each operation
+//! What the tests and the soak share: random keys, chains, books, messages and ink files, and each operation
 //! called on the proved library and on the reference at once. Both must give the same number and leave
 //! the same bytes, and a refusal must leave everything as it was.
 
@@ -8,6 +8,7 @@ pub mod books;
 pub mod chains;
 pub mod cmac;
 pub mod driver;
+pub mod ink;
 pub mod lent;
 pub mod pad;
 pub mod random;

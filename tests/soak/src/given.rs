@@ -7,6 +7,7 @@ use reference::pad::LONGEST;
 use reference::Size;
 use shared::archive::sealed_text;
 use shared::books::{self, Built};
+use shared::ink::{kind, record, remark_length, Owned, REMARK};
 use shared::Random;
 
 /// What a round of the soak draws from: its numbers, a size with a key, a chain and their book, what
@@ -94,6 +95,15 @@ impl<'a> Given<'a> {
             self.recut(&mut block);
         }
         block
+    }
+
+    /// A pad number.
+    fn number(&mut self, wrong: bool) -> Vec<u8> {
+        let mut number = self.random.bytes(8);
+        if wrong {
+            self.recut(&mut number);
+        }
+        number
     }
 
     /// A count or a number of rounds: any is right.
@@ -287,5 +297,68 @@ impl<'a> Given<'a> {
             }
         }
         sealed
+    }
+
+    /// The kinds of up to four remarks; or too many, or with one that is near them or any byte.
+    fn kinds(&mut self, wrong: bool) -> Vec<u8> {
+        let count = self.random.below(5);
+        let mut kinds: Vec<u8> = (0..count).map(|_| kind(&mut self.random)).collect();
+        if wrong {
+            let (any, at) = (self.random.number() as u8, self.random.below(count + 1));
+            match self.random.below(4) {
+                0 => kinds.resize(5 + self.random.below(3), any),
+                1 => kinds.insert(at, any),
+                2 => kinds.insert(at, 0x0f),
+                _ => kinds.insert(at, 0x20),
+            }
+        }
+        kinds
+    }
+
+    /// Four remarks; or with one that is too long.
+    fn remarks(&mut self, wrong: bool) -> [Vec<u8>; 4] {
+        let any = |_| {
+            let length = remark_length(&mut self.random);
+            self.random.bytes(length)
+        };
+        let mut remarks = [(); 4].map(any);
+        if wrong {
+            let length = match self.random.below(2) {
+                0 => REMARK + 1,
+                _ => REMARK + self.random.below(300),
+            };
+            remarks[self.random.below(4)].resize(length, 7);
+        }
+        remarks
+    }
+
+    /// The fields of an ink file, of which these are to be wrong.
+    pub fn fields(&mut self, [n, v, s, t, k, r]: [bool; 6]) -> Owned {
+        Owned {
+            number: self.number(n),
+            iv: self.block(v),
+            sealed: self.blocks(s),
+            tag: self.block(t),
+            kinds: self.kinds(k),
+            remarks: self.remarks(r),
+        }
+    }
+
+    /// A file of these records with a byte of a head or any bit changed, cut short, or made longer.
+    pub fn damaged_ink(&mut self, records: &[Vec<u8>]) -> Vec<u8> {
+        let mut file = records.concat();
+        match self.random.below(8) {
+            0 => file.truncate(self.random.below(file.len())),
+            1 => file.truncate(file.len() - self.random.below(300).min(file.len())),
+            2 => self.flip(&mut file),
+            3 => file.extend(self.random.block()),
+            4 => file.extend(record(kind(&mut self.random), b"one more")),
+            _ => {
+                let front = &records[..self.random.below(records.len())];
+                let at: usize = front.iter().map(Vec::len).sum();
+                file[at + self.random.below(6)] = self.random.number() as u8;
+            }
+        }
+        file
     }
 }

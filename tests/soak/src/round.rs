@@ -12,6 +12,7 @@ use shared::book::{
 use shared::books::Built;
 use shared::cmac::cmac;
 use shared::driver::{read, round, rounds, seal, Pass};
+use shared::ink::{self, judge};
 use shared::pad::{code, due, padded, Use};
 use shared::roundtrip;
 use shared::session::{tag, Both, Call};
@@ -35,6 +36,7 @@ impl Round<'_> {
             self.read();
             self.open();
             self.check();
+            self.ink();
         }
         self.build();
         self.build_reading();
@@ -183,6 +185,30 @@ impl Round<'_> {
             (key, set, message.to_vec(), tag) == before,
             "what is checked"
         );
+    }
+
+    /// Fields written; read, as the file that they are or would be, which must be refused alike; and that file
+    /// read with some damage.
+    fn ink(&mut self) {
+        let [short, wrong @ ..] = self.given.wrong::<7>();
+        let fields = self.given.fields(wrong);
+        let room = self.given.room(fields.length(), short);
+        let (before, records) = (fields.clone(), fields.records());
+        let told = ink::write(&fields.fields(), room);
+        assert!(fields == before, "the fields");
+        self.count("write_ink", &told);
+        let whole = records.concat();
+        let number = judge(&whole);
+        self.tally.add("read_ink", number);
+        match told {
+            Ok(file) => assert!(number == 0 && file == whole, "what is written"),
+            Err(9) => assert_eq!(number, 0, "what a longer buffer takes"),
+            Err(refused) => assert_eq!(number, refused, "what is refused"),
+        }
+        let file = self.given.damaged_ink(&records);
+        let before = file.clone();
+        self.tally.add("read_ink", judge(&file));
+        assert!(file == before, "the file");
     }
 
     fn build(&mut self) {

@@ -4,7 +4,7 @@ use std::collections::BTreeMap;
 use std::fmt::{Display, Formatter, Result};
 
 /// Every operation, in the order of the header, and the two round trips.
-const OPERATIONS: [&str; 23] = [
+const OPERATIONS: [&str; 25] = [
     "encipher",
     "decipher",
     "first_rounds",
@@ -26,6 +26,8 @@ const OPERATIONS: [&str; 23] = [
     "last_call",
     "open",
     "check",
+    "read_ink",
+    "write_ink",
     "tag_roundtrip",
     "seal_roundtrip",
 ];
