@@ -4,6 +4,7 @@
 mod archive;
 mod book;
 mod driver;
+mod ink;
 mod packed;
 mod packed_reading;
 mod parts;
@@ -33,7 +34,7 @@ fn beside(name: &str, first: &[Times; 3], second: &[Times; 3]) -> String {
     format!("{name:<22}{cells}")
 }
 
-/// The first table, and below it reading beside its counterparts.
+/// The first table, and below it reading beside its counterparts, and ink files.
 fn product() {
     let key = |size: Size| format!("{:>19}", format!("key of {}", size.key_bytes()));
     println!("{:<14}{:>8}{}", "", "message", Size::ALL.map(key).concat());
@@ -63,6 +64,8 @@ fn product() {
     }
     println!("The proved library by itself, in this run");
     println!("{}", ratios.join("\n"));
+    println!("Ink files of four remarks");
+    ink::print();
     let (name, bytes) = stack::most()[0];
     println!("The largest call, {name}, uses {bytes} bytes of stack");
 }

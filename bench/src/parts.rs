@@ -8,13 +8,17 @@ use shared::{chains, Random};
 use std::hint::black_box as hide;
 
 /// A row: what was called, on how many bytes, both times and their ratio.
-fn row(name: &str, bytes: usize, times: Times) {
+pub fn line(name: &str, bytes: usize, times: &Times) -> String {
     let (a, b, ratio) = (shown(times.rattle), shown(times.rust), times.ratio());
-    println!("{name:<14} {bytes:>9} {a:>12} {b:>12} {ratio:>8.2}");
+    format!("{name:<14} {bytes:>9} {a:>12} {b:>12} {ratio:>8.2}")
+}
+
+fn row(name: &str, bytes: usize, times: Times) {
+    println!("{}", line(name, bytes, &times));
 }
 
 /// The head of rows: what the number in front counts, and what the two times are of.
-fn heading(bytes: &str, [first, second]: [&str; 2]) {
+pub fn heading(bytes: &str, [first, second]: [&str; 2]) {
     println!(
         "{:<14} {bytes:>9} {first:>12} {second:>12} {:>8}",
         "", "ratio"

@@ -1,12 +1,13 @@
 //! How much stack each operation uses.
 
-use crate::LENGTHS;
+use crate::{ink, LENGTHS};
 use bowlinette::Session;
 use reference::book::ROUND;
 use reference::chain::SET;
 use reference::Size;
 use shared::archive::sealed_text;
 use shared::books::{self, Built};
+use shared::ink::proved;
 use shared::Random;
 use std::arch::asm;
 use std::ptr::{read_volatile, write_volatile};
@@ -161,9 +162,19 @@ fn of_messages(g: &Given) -> Vec<(&'static str, usize)> {
     ]
 }
 
+/// The operations on an ink file.
+fn of_ink() -> Vec<(&'static str, usize)> {
+    let given = ink::Given::new(LENGTHS[1]);
+    let (file, fields) = (&given.file, given.fields.fields());
+    let (mut numbers, mut out, mut length) = ([0; 18], vec![0; file.len()], 0);
+    let read = || bowlinette::read_ink(file, &mut numbers);
+    let write = || proved(&fields, &mut out, &mut length);
+    vec![("read_ink", used(read)), ("write_ink", used(write))]
+}
+
 /// How many bytes each operation uses, with the key with which it uses most; the most first.
 pub fn most() -> Vec<(&'static str, usize)> {
-    let mut most: Vec<(&str, usize)> = Vec::new();
+    let mut most = of_ink();
     for given in Size::ALL.map(Given::new) {
         let operations = [of_keys(&given), of_books(&given), of_messages(&given)].concat();
         for (name, bytes) in operations {
