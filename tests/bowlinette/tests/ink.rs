@@ -12,35 +12,24 @@ use shared::pad::{code, due, Use};
 use shared::session::tag;
 use shared::Random;
 
-/// An example by hand: one sealed block and three remarks, of which the second is empty.
-const FILE: &[u8; 107] = b"\
-    \xa5\x01\x08\0\0\0pad no 7\
-    \xa5\x02\x10\0\0\0the IV, 16 bytes\
-    \xa5\x03\x10\0\0\0one sealed block\
-    \xa5\x04\x10\0\0\0the tag 16 bytes\
-    \xa5\x10\x04\0\0\0ink!\
-    \xa5\x1f\x00\0\0\0\
-    \xa5\x10\x05\0\0\0hello";
-
-/// What it is written from.
-const FIELDS: Fields = Fields {
-    number: b"pad no 7",
-    iv: b"the IV, 16 bytes",
-    sealed: b"one sealed block",
-    tag: b"the tag 16 bytes",
-    kinds: &[0x10, 0x1f, 0x10],
-    remarks: [b"ink!", b"", b"hello", b""],
-};
+/// The example of docs/FORMAT.md, byte by byte: one sealed block and two remarks, of which the second is empty.
+const FILE: &[u8; 94] = b"\
+    \xa5\x01\x08\0\0\0\x01\x02\x03\x04\x05\x06\x07\x08\
+    \xa5\x02\x10\0\0\0\x11\x11\x11\x11\x11\x11\x11\x11\x11\x11\x11\x11\x11\x11\x11\x11\
+    \xa5\x03\x10\0\0\0\x22\x22\x22\x22\x22\x22\x22\x22\x22\x22\x22\x22\x22\x22\x22\x22\
+    \xa5\x04\x10\0\0\0\x33\x33\x33\x33\x33\x33\x33\x33\x33\x33\x33\x33\x33\x33\x33\x33\
+    \xa5\x1f\x02\0\0\0hi\
+    \xa5\x10\x00\0\0\0";
 
 #[test]
 fn the_example() {
-    let places = [6, 20, 42, 16, 64, 3];
-    let (kinds, offsets, lengths) = ([0x10, 0x1f, 0x10, 0], [86, 96, 102, 0], [4, 0, 5, 0]);
+    let places = [6, 20, 42, 16, 64, 2];
+    let (kinds, offsets, lengths) = ([0x1f, 0x10, 0, 0], [86, 94, 0, 0], [2, 0, 0, 0]);
     let numbers = [&places[..], &kinds, &offsets, &lengths].concat();
-    assert_eq!(read(FILE).unwrap().numbers()[..], numbers);
-    assert_eq!(read(FILE).unwrap().fields(FILE), FIELDS);
-    assert_eq!(write(&FIELDS, 107).as_deref(), Ok(&FILE[..]));
-    assert_eq!(judge(FILE), 0);
+    let ink = read(FILE).unwrap();
+    assert_eq!(ink.numbers()[..], numbers);
+    assert_eq!(write(&ink.fields(FILE), 94).as_deref(), Ok(&FILE[..]));
+    assert_eq!(write(&ink.fields(FILE), 93), Err(9));
 }
 
 /// Fields with three sealed blocks and up to four remarks. No byte of any is that of a mark.

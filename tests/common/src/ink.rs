@@ -1,12 +1,8 @@
 //! Ink files read and written on both versions, and what they are made of.
 
-use crate::lent::{both_over, told, written, FILL, LENGTH};
+use crate::lent::{both, told, written, FILL, LENGTH};
 use crate::Random;
 use reference::ink::{self, Fields, Ink, REMARKS};
-
-/// What a buffer holds before a file is written to it: not FILL, which is the mark of a record, so that a
-/// mark that is not written is missed.
-pub const BLANK: u8 = !FILL;
 
 /// The longest sealed blocks, the longest remark and the longest file, in bytes.
 pub const SEALED: usize = 1_048_576;
@@ -134,15 +130,14 @@ pub fn proved(fields: &Fields, out: &mut [u8], length: &mut u64) -> u32 {
 pub fn write(fields: &Fields, room: usize) -> Result<Vec<u8>, u32> {
     let first = [fields.number, fields.iv, fields.sealed, fields.tag].map(<[u8]>::len);
     let given = (first, fields.kinds, fields.remarks.map(<[u8]>::len), room);
-    let (told, mut out) = both_over(
-        BLANK,
+    let (told, mut out) = both(
         ("write_ink", given),
         room,
         |out| told(LENGTH, |length| proved(fields, out, length)),
         |out| ink::write(fields, out).map(|n| n as u64),
     );
     let after = out.split_off(told? as usize);
-    assert!(after.iter().all(|&x| x == BLANK), "write_ink, {given:?}");
+    assert!(after.iter().all(|&x| x == FILL), "write_ink, {given:?}");
     Ok(out)
 }
 

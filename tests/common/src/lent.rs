@@ -2,8 +2,9 @@
 
 use std::fmt::Debug;
 
-/// What bytes and lengths hold before a call.
-pub const FILL: u8 = 0xa5;
+/// What bytes and lengths hold before a call. It is not the mark of a record, which would be missed if it
+/// were not written.
+pub const FILL: u8 = 0x5a;
 pub const LENGTH: u64 = 0x5a5a_5a5a_5a5a_5a5a;
 
 /// How many filled elements stand on both sides of those that are lent.
@@ -65,22 +66,8 @@ pub fn both<R>(
 where
     R: PartialEq + Debug,
 {
-    both_over(FILL, name, room, proved, reference)
-}
-
-/// The same with bytes that are filled otherwise.
-pub fn both_over<R>(
-    fill: u8,
-    name: impl Debug,
-    room: usize,
-    proved: impl FnOnce(&mut [u8]) -> Result<R, u32>,
-    reference: impl FnOnce(&mut [u8]) -> Result<R, u32>,
-) -> (Result<R, u32>, Vec<u8>)
-where
-    R: PartialEq + Debug,
-{
-    let (given, left) = lent(fill, room, proved);
-    let mut due = vec![fill; room];
+    let (given, left) = lent(FILL, room, proved);
+    let mut due = vec![FILL; room];
     let want = reference(&mut due);
     assert_eq!(given, want, "{name:?}");
     if left != due {
@@ -88,7 +75,7 @@ where
         panic!("{name:?}: the first byte that differs: {apart:?}");
     }
     if let Err(number) = given {
-        let stays = left.iter().all(|&x| x == fill);
+        let stays = left.iter().all(|&x| x == FILL);
         assert!(stays, "{name:?}: written after {number}");
     }
     (given, left)
