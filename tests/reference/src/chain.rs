@@ -1,9 +1,10 @@
-//! Codings, sets and chains (01, "Chain of codings"): where everything stands, what is refused, and
-//! how a block is coded.
+//! Codings, sets and chains (01, "Chain of codings"): where everything stands, what is refused, how a
+//! block is coded, and how a chain is drawn.
 
 use crate::lea::Block;
 use crate::refusal;
 use crate::Size;
+use std::convert::Infallible;
 
 /// A coding in bytes: byte v is the image of v.
 pub const CODING: usize = 16;
@@ -17,14 +18,14 @@ pub const ROUND: usize = MIDDLES * CODING + MIDDLES;
 
 /// The word rule of a kind of chain: word `old` of set l is, byte for byte, word `new` of set l + 1.
 #[derive(Clone, Copy)]
-struct Rule {
+pub(crate) struct Rule {
     old: usize,
     new: usize,
 }
 
 /// Chains of 01, and reading chains (request 2026-01).
-const SEALING: Rule = Rule { old: 0, new: 3 };
-const READING: Rule = Rule { old: 3, new: 0 };
+pub(crate) const SEALING: Rule = Rule { old: 0, new: 3 };
+pub(crate) const READING: Rule = Rule { old: 3, new: 0 };
 
 /// The bytes of a chain, of the length that its rounds need, by name.
 #[derive(Clone, Copy)]
@@ -210,31 +211,60 @@ fn random_by(
     first: Option<&[u8]>,
     mut below: impl FnMut(usize) -> usize,
 ) -> Vec<u8> {
-    let rounds = size.rounds();
-    let codings = (0..32 * (rounds + 2)).flat_map(|_| permutation(&mut below));
-    let mut chain: Vec<u8> = codings.collect();
-    if let Some(set) = first {
-        chain[SET..2 * SET].copy_from_slice(set);
-    }
-    for set in 1..=rounds {
-        let old = SET * set + WORD * rule.old;
-        chain.copy_within(old..old + WORD, SET * (set + 1) + WORD * rule.new);
-    }
-    for _ in 0..rounds {
-        for _ in 0..MIDDLES {
-            chain.extend(permutation(&mut below));
-        }
-        for place in 0..MIDDLES {
-            chain.push(if place % 8 == 0 { 0 } else { below(2) as u8 });
-        }
-    }
-    chain
+    drawn(rule, size, first, |bound| Ok::<_, Infallible>(below(bound))).unwrap()
 }
 
-fn permutation(below: &mut impl FnMut(usize) -> usize) -> [u8; CODING] {
+/// A valid chain of drawn codings and masks, its set 0 the one given, if one is: `below` gives a number
+/// below its argument, or ends the drawing. A set that is given, what the rule fixes and the masks at
+/// half byte 0 draw nothing.
+pub(crate) fn drawn<E>(
+    rule: Rule,
+    size: Size,
+    first: Option<&[u8]>,
+    mut below: impl FnMut(usize) -> Result<usize, E>,
+) -> Result<Vec<u8>, E> {
+    let mut chain = Vec::with_capacity(size.chain_bytes());
+    codings(SET, &mut chain, &mut below)?;
+    match first {
+        Some(set) => chain.extend_from_slice(set),
+        None => codings(SET, &mut chain, &mut below)?,
+    }
+    for _ in 0..size.rounds() {
+        let old = chain.len() - SET + WORD * rule.old;
+        for w in 0..4 {
+            if w == rule.new {
+                chain.extend_from_within(old..old + WORD);
+            } else {
+                codings(WORD, &mut chain, &mut below)?;
+            }
+        }
+    }
+    for _ in 0..size.rounds() {
+        codings(MIDDLES * CODING, &mut chain, &mut below)?;
+        for place in 0..MIDDLES {
+            chain.push(if place % 8 == 0 { 0 } else { below(2)? as u8 });
+        }
+    }
+    Ok(chain)
+}
+
+/// So many bytes of drawn codings, to the end of a chain.
+fn codings<E>(
+    bytes: usize,
+    chain: &mut Vec<u8>,
+    below: &mut impl FnMut(usize) -> Result<usize, E>,
+) -> Result<(), E> {
+    for _ in 0..bytes / CODING {
+        chain.extend_from_slice(&permutation(below)?);
+    }
+    Ok(())
+}
+
+/// 0 to 15, with the contents of each place, from the last on, and of one up to it exchanged.
+fn permutation<E>(below: &mut impl FnMut(usize) -> Result<usize, E>) -> Result<[u8; CODING], E> {
     let mut coding: [u8; CODING] = std::array::from_fn(|v| v as u8);
     for last in (1..CODING).rev() {
-        coding.swap(last, below(last + 1));
+        coding.swap(last, below(last + 1)?);
     }
-    coding
+    Ok(coding)
 }

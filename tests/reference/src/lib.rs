@@ -1,4 +1,4 @@
-//! Document 01 and requests 2026-01 and 2026-02 in Rust, written from their words alone: what the proved
+//! Document 01 and requests 2026-01 to 2026-03 in Rust, written from their words alone: what the proved
 //! library is compared with, and the yardstick of the benchmarks.
 
 pub mod archive;
@@ -7,6 +7,7 @@ pub mod chain;
 pub mod driver;
 pub mod ink;
 pub mod lea;
+pub mod maker;
 pub mod pad;
 pub mod reading;
 pub mod refusal;

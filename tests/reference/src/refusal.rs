@@ -1,5 +1,5 @@
-//! The numbers of the refusals (01, "Refusals from the input" and "Refusals from the state"; 02, request
-//! 2026-02).
+//! The numbers of the refusals (01, "Refusals from the input" and "Refusals from the state"; 02, requests
+//! 2026-02 and 2026-03).
 
 /// The key has none of the three sizes.
 pub const KEY_LENGTH: u32 = 1;
@@ -31,3 +31,5 @@ pub const LIMIT: u32 = 22;
 pub const RECORD: u32 = 30;
 /// The length of a record is not allowed for its kind, or past the file's end.
 pub const RECORD_LENGTH: u32 = 31;
+/// The random bytes ran out.
+pub const RAN_OUT: u32 = 32;

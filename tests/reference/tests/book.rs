@@ -2,8 +2,10 @@
 //! what LEA does.
 
 mod given;
+mod numbers;
 
-use given::{built, numbers, xor};
+use given::{built, xor};
+use numbers::numbers;
 use reference::book::{GROUP, ROUND, START};
 use reference::chain::{self, decode};
 use reference::driver::{block, fold, halves, round};
