@@ -5,8 +5,7 @@ use mathlib.Core.List.{List, [], _++_}
 use Prim.Native.Nat.{ℕ, _-_, _%_, _≤_, _<_}
 use native.Mathlib.Nat.{mod-lt}
 use native.Mathlib.Omega.{arith}
-use lib.ListN.{length, getD, take, drop}
-use lib.Seq.{length-take-le}
+use lib.ListN.{length, getD, drop}
 use Rattle.lists.specs.Refusals.{first}
 use Rattle.cipher.specs.KeySize.{rounds, sizeOfKey}
 use Rattle.cipher.specs.Lea.{keyRows}
@@ -57,12 +56,6 @@ module _ (from to : ℕ) (key ch out : List ℕ) (len : KeySize → ℕ) (part :
       built-front h n e x p =
           let d : n - 0 ≡ len z = omega arith in
           ap (λ (k : ℕ). (0, x ++ drop k out)) d ∙ built-done h x p
-
--- the front of a buffer, as it is lent, and what is after it
-pub room-length : (n m : ℕ) (out : List ℕ) → n ≡ m → m ≤ length out → length (take (n - 0) out) ≡ m
-room-length n m out e h =
-    let d : n - 0 ≡ m = omega arith in
-    rw d (length-take-le m out h)
 
 -- a round number mod r
 pub round-below : (z : KeySize) (l r : ℕ) → r ≡ rounds z → l % r < rounds z

@@ -3,18 +3,16 @@ use mathlib.Core.Path.{_≡_, refl, sym, ap, ap₂, _∙_}
 use mathlib.Core.List.{List, _++_}
 use Prim.Native.Nat.{ℕ, zero, suc, _+_, _-_, _*_, _/_, _%_, _≤_, _<_}
 use native.Mathlib.Decide.{decLt}
-use native.Mathlib.Nat.{le-of-eq}
 use native.Mathlib.Omega.{arith}
 use lib.Bits.{bitXor, xor-lt, xor-comm}
 use lib.Dec.{lit<}
-use lib.ListN.{length, getD, take, drop, length-append, length-drop, List·getD-eq-default}
-use lib.Seq.{getD-drop, drop-at, length-take-le}
+use lib.ListN.{length, getD, drop, length-drop, List·getD-eq-default}
+use lib.Seq.{getD-drop}
 use Rattle.lists.specs.Tabulation.{tab, chunks, tables}
 use Rattle.lists.specs.Blocks.{Below}
 use Rattle.lists.specs.HalfBytes.{halfByte}
 use Rattle.lists.proofs.TabulationLaws.{length-tab, getD-tab, tab-ext}
 use Rattle.lists.proofs.ChunkLaws.{length-chunks, chunks-ext}
-use Rattle.lists.proofs.PartLaws.{grown-part, grown-whole}
 use Rattle.lists.proofs.HalfByteLaws.{half-lt}
 use Rattle.lists.proofs.XorLaws.{xor-assoc}
 use Rattle.cipher.specs.Coding.{FirstPermutations, codingAt, setOf, decode, inverted, blockHalf}
@@ -242,18 +240,6 @@ adds-length x s R K e = ap length e ∙ length-chunks (madeAdd s R K) 512 (lengt
 
 pub turns-length : (x s S : List ℕ) → x ≡ chunks 24 (madeTurn s S) → length x ≡ 6144
 turns-length x s S e = ap length e ∙ length-chunks (madeTurn s S) 256 (length-turn s S) 24
-
--- x written in front of out, and y after it
-module _ (x y out : List ℕ) (m n : ℕ) (room : length out ≡ m + n) (lx : length x ≡ m) where
-  pub second-length : length (take n (drop m (x ++ drop m out))) ≡ n
-  second-length =
-      rw (drop-at x (drop m out) m lx) (length-take-le n (drop m out) (rw (length-drop m out) (omega arith)))
-
-  pub two-joined : take m (x ++ drop m out) ++ (y ++ drop n (drop m (x ++ drop m out))) ≡ x ++ y
-  two-joined = grown-part x y out m n lx ∙ grown-whole (x ++ y) out (m + n) (le-of-eq room)
-
-  pub two-length : length y ≡ n → length (take m (x ++ drop m out) ++ (y ++ drop n (drop m (x ++ drop m out)))) ≡ length out
-  two-length ly = ap length two-joined ∙ length-append x y ∙ rw (lx, ly) (sym room)
 
 pub round-joined : (B A R K s m x y : List ℕ) → RoundReady B A R → s ≡ inverted 32 B → m ≡ inverted 24 R → x ≡ chunks 24 (madeAdd s R K)
     → y ≡ chunks 24 (madeTurn m A) → x ++ y ≡ roundPart (codingsOf B A R) K

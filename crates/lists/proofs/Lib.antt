@@ -1,6 +1,7 @@
 pub mod TabulationLaws
 pub mod ChunkLaws
 pub mod PartLaws
+pub mod TwoParts
 pub mod OverlayLaws
 pub mod BlockLaws
 pub mod BlockBuffers

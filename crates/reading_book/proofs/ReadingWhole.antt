@@ -2,9 +2,8 @@
 use mathlib.Core.Path.{_≡_, ap, ap₂, _∙_}
 use mathlib.Core.List.{List, [], _++_}
 use Prim.Native.Nat.{ℕ, suc, _+_, _-_, _*_}
-use native.Mathlib.Nat.{add-sub-cancel-left}
 use native.Mathlib.Omega.{arith}
-use lib.ListN.{length, getD, take, drop}
+use lib.ListN.{length, getD, drop}
 use Rattle.lists.specs.Tabulation.{chunks}
 use Rattle.lists.specs.Blocks.{zeros}
 use Rattle.lists.proofs.ChunkLaws.{length-chunks}
@@ -15,7 +14,7 @@ use Rattle.cipher.proofs.BookLaw.{group-size}
 use Rattle.reading.specs.Book.{readingPart, rowBack, readingBookRound, readingBookGroup, readingBookOf}
 use Rattle.reading.proofs.ReadingBookLaw.{reading-size}
 use Rattle.table_maker.specs.Made.{madeFold}
-use Rattle.book.proofs.BuildLaws.{group-is, second-length, two-joined, two-length}
+use Rattle.book.proofs.BuildLaws.{group-is}
 
 -- a round under the row that the code takes for it
 pub round-back-is : (r q l : ℕ) (rows : List (List ℕ)) (ch x : List ℕ) → q ≡ r → x ≡ readingPart (roundCodings r ch l) (getD rows (q - 1 - l) [])
@@ -41,23 +40,6 @@ group-made S U F s u x es eu ex = ex ∙ ap₂ (λ (a b : List ℕ). chunks 32 (
 
 pub group-length : (S U F : Set) (x : List ℕ) → x ≡ groupPart S U F zeros → length x ≡ 8192
 group-length S U F x e = ap length e ∙ group-size S U F zeros
-
--- x in front of out, m bytes of it, then y of n bytes, with the lengths as the code's parts have them
-abbrev pub afterFront : List ℕ → List ℕ → ℕ → List ℕ
-afterFront x out m = x ++ drop (m - 0) out
-
-module _ (x y out : List ℕ) (m n : ℕ) (room : length out ≡ m + n) (lx : length x ≡ m) where
-  front : m - 0 ≡ m
-  front = omega arith
-
-  pub rest-length : length (take (m + n - m) (drop m (afterFront x out m))) ≡ n
-  rest-length = rw (front, add-sub-cancel-left m n) (second-length x y out m n room lx)
-
-  pub rest-joined : take m (afterFront x out m) ++ (y ++ drop (m + n - m) (drop m (afterFront x out m))) ≡ x ++ y
-  rest-joined = rw (front, add-sub-cancel-left m n) (two-joined x y out m n room lx)
-
-  pub both-length : length y ≡ n → length (take m (afterFront x out m) ++ (y ++ drop (m + n - m) (drop m (afterFront x out m)))) ≡ length out
-  both-length ly = rw (front, add-sub-cancel-left m n) (two-length x y out m n room lx ly)
 
 -- the parts are those of the book
 pub reading-book-is : (r q : ℕ) (rows : List (List ℕ)) (ch S F x y : List ℕ) → q ≡ r → S ≡ drop (512 * (q + 1)) ch → F ≡ drop 512 ch

@@ -4,11 +4,12 @@ use mathlib.Core.List.{List}
 use Prim.Native.Nat.{ℕ}
 use native.Mathlib.Omega.{arith}
 use borrow.Author.Needs.{needs}
+use Rattle.lists.proofs.TwoParts.{room-length}
 use Rattle.cipher.specs.KeySize.{keyLength, rounds, bookLength}
 use Rattle.cipher.specs.Book.{bookOf}
 use Rattle.cipher.proofs.KeySizeLaws.{found-length}
 use Rattle.cipher.proofs.CheckLaws.{chain-checked}
-use Rattle.book.proofs.AnswerLaws.{built-key, built-chain, built-room, built-front, room-length}
+use Rattle.book.proofs.AnswerLaws.{built-key, built-chain, built-room, built-front}
 use Rattle.book.proofs.build.build.Statement.{statement}
 use Rattle.book.proofs.build.build.Tie as tie
 

@@ -3,7 +3,8 @@ use mathlib.Core.Path.{_∙_}
 use native.Mathlib.Omega.{arith}
 use borrow.Author.Needs.{needs}
 use lib.Seq.{length-take-le}
-use Rattle.book.proofs.BuildLaws.{inverse-array, round-bytes, adds-length, turns-length, second-length, two-joined, two-length, round-joined}
+use Rattle.lists.proofs.TwoParts.{second-length, two-joined, two-length}
+use Rattle.book.proofs.BuildLaws.{inverse-array, round-bytes, adds-length, turns-length, round-joined}
 use Rattle.book.proofs.rounds.round_tables.Statement.{statement}
 use Rattle.book.proofs.rounds.round_tables.Tie as tie
 

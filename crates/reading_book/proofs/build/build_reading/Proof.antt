@@ -5,13 +5,14 @@ use Prim.Native.Nat.{ℕ}
 use native.Mathlib.Omega.{arith}
 use borrow.Author.Needs.{needs}
 use lib.ListN.{length}
+use Rattle.lists.proofs.TwoParts.{room-length}
 use Rattle.cipher.specs.KeySize.{keyLength, rounds, sizeOfKey}
 use Rattle.cipher.specs.declared.size.SizeFound.the-variants.{Found}
 use Rattle.cipher.proofs.KeySizeLaws.{found-length}
 use Rattle.cipher.proofs.CheckLaws.{chain-checked}
 use Rattle.reading.specs.Chain.{ReadingChain}
 use Rattle.reading.specs.Book.{readingBookOf, readingBookLength}
-use Rattle.book.proofs.AnswerLaws.{built-key, built-chain, built-room, built-front, room-length}
+use Rattle.book.proofs.AnswerLaws.{built-key, built-chain, built-room, built-front}
 use Rattle.reading_book.proofs.build.build_reading.Statement.{statement}
 use Rattle.reading_book.proofs.build.build_reading.Tie as tie
 

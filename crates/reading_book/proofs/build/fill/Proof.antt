@@ -6,10 +6,10 @@ use native.Mathlib.Omega.{arith}
 use borrow.Author.Needs.{needs}
 use lib.ListN.{length}
 use Rattle.lists.proofs.PartLaws.{part-end}
+use Rattle.lists.proofs.TwoParts.{room-length, rest-length, rest-joined, both-length}
 use Rattle.cipher.specs.KeySize.{rounds}
-use Rattle.book.proofs.AnswerLaws.{room-length}
 use Rattle.book.proofs.WholeLaws.{set-in}
-use Rattle.reading_book.proofs.ReadingWhole.{rounds-back-length, group-length, rest-length, rest-joined, both-length, reading-book-is}
+use Rattle.reading_book.proofs.ReadingWhole.{rounds-back-length, group-length, reading-book-is}
 use Rattle.reading_book.proofs.build.fill.Statement.{statement}
 use Rattle.reading_book.proofs.build.fill.Tie as tie
 

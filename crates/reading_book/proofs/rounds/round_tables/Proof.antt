@@ -3,7 +3,8 @@ use mathlib.Core.Path.{refl, _∙_}
 use native.Mathlib.Omega.{arith}
 use borrow.Author.Needs.{needs}
 use lib.Seq.{length-take-le}
-use Rattle.book.proofs.BuildLaws.{inverse-array, round-bytes, second-length, two-joined, two-length}
+use Rattle.lists.proofs.TwoParts.{second-length, two-joined, two-length}
+use Rattle.book.proofs.BuildLaws.{inverse-array, round-bytes}
 use Rattle.reading_book.proofs.ReadingTableMade.{three-words, set-low, turns-back-length, subtracts-length, reading-joined}
 use Rattle.reading_book.proofs.rounds.round_tables.Statement.{statement}
 use Rattle.reading_book.proofs.rounds.round_tables.Tie as tie
