@@ -3,7 +3,7 @@ use mathlib.Core.List.{List, [], _∷_}
 use Prim.Native.Nat.{ℕ}
 use Rattle.cipher.specs.declared.refusal.Refusal.{Refusal}
 use Rattle.cipher.specs.declared.refusal.Refusal.the-variants.{KeyLength, ChainLength, NoPermutation, WordRule, MaskByte, BookLength, BlockLength, MessageLength, ShortBuffer}
-use Rattle.cipher.specs.declared.refusal.Refusal.the-variants.{KindByte, BadPadding, SessionFinished, SessionFull, BadRecord, RecordLength}
+use Rattle.cipher.specs.declared.refusal.Refusal.the-variants.{KindByte, BadPadding, SessionFinished, SessionFull, BadRecord, RecordLength, ShortRandom}
 use Rattle.cipher.specs.declared.refusal.Outcome.{Outcome}
 use Rattle.cipher.specs.declared.refusal.Outcome.the-variants.{Done, Refused}
 use Rattle.cipher.specs.declared.refusal.Written.{Written}
@@ -25,13 +25,14 @@ numberOf SessionFinished = 21
 numberOf SessionFull = 22
 numberOf BadRecord = 30
 numberOf RecordLength = 31
+numberOf ShortRandom = 32
 
 -- an outcome as a number: 0 where the operation was done
 abbrev pub outcomeOf : Outcome → ℕ
 outcomeOf Done = 0
 outcomeOf (Refused q) = numberOf q
 
--- and where an operation writes, the number and how many bytes: none where it was refused
+-- and where an operation writes or draws, the number and how many bytes: none where it was refused
 abbrev pub writtenOf : Written → ℕ × ℕ
 writtenOf (written.Bytes n) = (0, n)
 writtenOf (written.Refused q) = (numberOf q, 0)

@@ -18,6 +18,7 @@ pub enum Refusal {
     SessionFull,
     BadRecord,
     RecordLength,
+    ShortRandom,
 }
 
 // The outcome of an operation that gives nothing else.
@@ -26,7 +27,7 @@ pub enum Outcome {
     Refused(Refusal),
 }
 
-// The outcome of an operation that writes bytes: how many.
+// The outcome of an operation that writes bytes, or draws them: how many.
 pub enum Written {
     Bytes(usize),
     Refused(Refusal),
@@ -52,6 +53,7 @@ impl Refusal {
             Refusal::SessionFull => 22,
             Refusal::BadRecord => 30,
             Refusal::RecordLength => 31,
+            Refusal::ShortRandom => 32,
         }
     }
 }

@@ -1,0 +1,22 @@
+-- `count::round_draws` meets its contract.
+use native.Mathlib.Omega.{arith}
+use borrow.Author.Needs.{needs}
+use lib.ListN.{drop}
+use Rattle.maker.specs.MadeChain.{middlesDraw}
+use Rattle.maker.proofs.DrawTurns.{near}
+use Rattle.maker.proofs.ChainTurns.{round-draws-is, within-middles}
+use Rattle.maker.proofs.count.round_draws.Statement.{statement}
+use Rattle.maker.proofs.count.round_draws.Tie as tie
+
+add-result : tie.Need-add-result
+add-result c =
+    let e = c .before .before .before in
+    omega (arith, c .middles-draw .ensures, e .pre .1, near 360 middlesDraw within-middles (e .args .random .now) (e .args .start))
+
+returns : tie.Need-returns
+returns c =
+    let a = c .before .before .before .args in
+    omega (arith, c .middles-draw .ensures, round-draws-is (drop (a .start) (a .random .now)))
+
+pub round-draws-spec : {M : Type 1} → statement M
+round-draws-spec = tie.close (tie.spec (λ c κs. search needs) (λ c. search needs) add-result returns)

@@ -1,0 +1,6 @@
+pub mod Draw
+pub mod Numbers
+pub mod Plan
+pub mod MadeChain
+pub mod Answers
+pub mod Laws
