@@ -55,12 +55,12 @@ module _ {A : Type 0} (number : A → ℕ) (refuse : ℕ → A) (e : (q : ℕ) �
       each true d k h = let q : t .1 ≡ 0 = sym (e (t .1)) ∙ h in absurd (omega (arith, n .0))
       each false d k h = let p = k h in ((d, p .0), p .1)
 
-clear-front : (a b : List (Bool × ℕ)) → Clear (a ++ b) → Clear a
+pub clear-front : (a b : List (Bool × ℕ)) → Clear (a ++ b) → Clear a
 clear-front [] b c = tt
 clear-front (t ∷ a) b c = (c .0, clear-front a b (c .1))
 
 -- the size of a key that is not refused
-size-known : (n : ℕ) → not (eqb n 16 || eqb n 24 || eqb n 32) ≡ false → sizeOfKey n ≡ Found (keyLengthSize n)
+pub size-known : (n : ℕ) → not (eqb n 16 || eqb n 24 || eqb n 32) ≡ false → sizeOfKey n ≡ Found (keyLengthSize n)
 unfolding sizeBy keyLengthSize
 size-known n = go (eqb n 16) (eqb n 24) (eqb n 32)
   where

@@ -18,3 +18,4 @@ pub mod PremisesMet
 pub mod Marked
 pub mod RefusalOrder
 pub mod Demand3Theorem
+pub mod WorksTheorem

@@ -18,6 +18,7 @@ use Rattle.pad.specs.Answers.{codingTests}
 use Rattle.driver.specs.Driver.{bookTests, runRoundTests, runRoundsTests, sealTests, blockCallTests, lastCallTests}
 use Rattle.archive.specs.Archive.{allOpenTests, checkTests}
 use Rattle.inkfile.specs.Reading.{recordTests}
+use Rattle.maker.specs.Answers.{makeTests, makeReadingTests}
 use Rattle.claims.specs.Model.{Call, blockCall, lastCall, State, refusals}
 use Rattle.claims.specs.Order.{InOrder, fieldTests, Order}
 
@@ -30,12 +31,14 @@ model-order (blockCall m) s = refl
 model-order (lastCall m k) s = refl
 
 pub order : Order
-unfolding follows standsIn standsBefore noneBefore setTests chainTestsBy codingTests recordTests
+unfolding follows standsIn standsBefore noneBefore setTests chainTestsBy codingTests recordTests makeTests makeReadingTests
 order = record {
   on-block = λ key b. in-order (keyBlockTests key b) refl;
   round-keys = λ key. in-order (keyTests key) refl;
   check-set = λ s. in-order (setTests s) refl;
   check-chain = λ n ch. in-order (chainCheckTests n ch) refl;
+  making = λ n random out. in-order (makeTests n random out) refl;
+  making-reading = λ n set random out. in-order (makeReadingTests n set random out) refl;
   building = λ key ch out. in-order (buildTests key ch out bookLength) refl;
   build-round = λ key ch out. in-order (buildTests key ch out (λ z. roundLength)) refl;
   check-reading-chain = λ n ch. in-order (readingChainCheckTests n ch) refl;

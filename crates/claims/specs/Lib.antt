@@ -9,3 +9,4 @@ pub mod Demand3
 pub mod Examples
 pub mod Order
 pub mod Ink
+pub mod Works

@@ -19,6 +19,7 @@ use Rattle.driver.specs.declared.session.Session.{Session}
 use Rattle.archive.specs.Archive.{allOpenTests, checkTests}
 use Rattle.inkfile.specs.Kinds.{kindTests}
 use Rattle.inkfile.specs.Reading.{recordTests}
+use Rattle.maker.specs.Answers.{makeTests, makeReadingTests}
 use Rattle.claims.specs.Model.{Call, State, refusals}
 
 -- of the numbers whose conditions hold, the one that stands first in the order is given, and none where no condition holds
@@ -37,6 +38,9 @@ pub record Order : Type 1 where
   -- the checks of a lone set, and of a chain for a key of n bytes
   pub check-set : (s : List ℕ) → InOrder (setTests s)
   pub check-chain : (n : ℕ) (ch : List ℕ) → InOrder (chainCheckTests n ch)
+  -- the chain maker, for a key of n bytes
+  pub making : (n : ℕ) (random out : List ℕ) → InOrder (makeTests n random out)
+  pub making-reading : (n : ℕ) (set random out : List ℕ) → InOrder (makeReadingTests n set random out)
   -- the builder
   pub building : (key ch out : List ℕ) → InOrder (buildTests key ch out bookLength)
   pub build-round : (key ch out : List ℕ) → InOrder (buildTests key ch out (λ z. roundLength))
