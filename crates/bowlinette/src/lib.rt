@@ -13,6 +13,7 @@ use cipher::answer::BlockAnswer;
 use cipher::refusal::Written;
 use pad::code::TagCode;
 
+mod chains; // chains.rt: chains from random bytes
 mod ink; // ink.rt: ink files
 mod review; // review.rt: reading tables
 mod session; // session.rt: the tag session
