@@ -1,55 +1,23 @@
 //! The checks of lone sets, of chains and of reading chains, on both versions: valid ones of each size,
 //! and each refusal at first, middle and last places, alone and beside others.
 
-use reference::chain::{self, CODING, MIDDLES, ROUND, SET, WORD};
+use reference::chain::{CODING, MIDDLES, ROUND, SET, WORD};
 use reference::Size;
-use shared::book::{check_chain, check_reading_chain, check_set as told_set};
-use shared::{chains, places, Random};
+use shared::book::check_set as told_set;
+use shared::chains::{on_each, uniform, Kind, IDENTITY, KINDS};
+use shared::{places, Random};
 
-/// A kind of chain: a random valid one, what is said of one for keys of so many bytes, and the word rule,
-/// that word `old` of a set is word `new` of the next.
-struct Kind {
-    name: &'static str,
-    valid: fn(Size, &mut Random) -> Vec<u8>,
-    told: fn(usize, &[u8]) -> u32,
-    old: usize,
-    new: usize,
-}
-
-const KINDS: [Kind; 2] = [
-    Kind {
-        name: "chain",
-        valid: chains::valid,
-        told: check_chain,
-        old: 0,
-        new: 3,
-    },
-    Kind {
-        name: "reading chain",
-        valid: |size, random| chains::reading(size, None, random),
-        told: check_reading_chain,
-        old: 3,
-        new: 0,
-    },
-];
-
-impl Kind {
-    /// The number for a chain of this size after a change.
-    fn changed(&self, size: Size, chain: &[u8], change: impl FnOnce(&mut [u8])) -> u32 {
-        let mut other = chain.to_vec();
-        change(&mut other);
-        (self.told)(size.key_bytes(), &other)
-    }
+/// The number for a chain of this kind and size after a change.
+fn changed(kind: Kind, size: Size, chain: &[u8], change: impl FnOnce(&mut [u8])) -> u32 {
+    let mut other = chain.to_vec();
+    change(&mut other);
+    kind.told(size.key_bytes(), &other)
 }
 
 /// Runs a check on a valid chain of each kind and size.
-fn on_chains(seed: u64, check: impl Fn(&Kind, Size, Vec<u8>)) {
+fn on_chains(seed: u64, check: impl Fn(Kind, Size, Vec<u8>)) {
     let mut random = Random(seed);
-    for kind in &KINDS {
-        for size in Size::ALL {
-            check(kind, size, (kind.valid)(size, &mut random));
-        }
-    }
+    on_each(|kind, size| check(kind, size, kind.random(size, &mut random)));
 }
 
 /// Where set l, the middle codings and the masks of round l begin.
@@ -71,13 +39,13 @@ fn valid_chains() {
         on_chains(seed, |kind, size, chain| {
             for other in Size::ALL {
                 let number = if other == size { 0 } else { 2 };
-                let told = (kind.told)(other.key_bytes(), &chain);
-                assert_eq!(told, number, "{} for {other:?}", kind.name);
+                let told = kind.told(other.key_bytes(), &chain);
+                assert_eq!(told, number, "{kind:?} for {other:?}");
             }
-            for other in &KINDS {
-                let number = if other.name == kind.name { 0 } else { 4 };
-                let told = (other.told)(size.key_bytes(), &chain);
-                assert_eq!(told, number, "{} as {}", kind.name, other.name);
+            for other in KINDS {
+                let number = if other == kind { 0 } else { 4 };
+                let told = other.told(size.key_bytes(), &chain);
+                assert_eq!(told, number, "{kind:?} as {other:?}");
             }
         });
     }
@@ -87,13 +55,13 @@ fn valid_chains() {
 #[test]
 fn identity_chains() {
     for size in Size::ALL {
-        let told = |chain: &[u8]| KINDS.map(|kind| (kind.told)(size.key_bytes(), chain));
-        let mut chain = chain::random(size, |bound| bound - 1);
-        assert_eq!(told(&chain), [0, 0]);
-        for l in 0..size.rounds() {
-            chain[masks_at(size, l)..][..MIDDLES].fill(0);
+        for mask in [0, 1] {
+            let chain = uniform(size, IDENTITY, mask);
+            assert_eq!(
+                KINDS.map(|kind| kind.told(size.key_bytes(), &chain)),
+                [0, 0]
+            );
         }
-        assert_eq!(told(&chain), [0, 0]);
     }
 }
 
@@ -107,9 +75,9 @@ fn key_lengths() {
                 Some(_) => 2,
                 None => 1,
             };
-            assert_eq!((kind.told)(key, &chain), number);
+            assert_eq!(kind.told(key, &chain), number);
             let empty = if known.is_some() { 2 } else { 1 };
-            assert_eq!((kind.told)(key, &[]), empty);
+            assert_eq!(kind.told(key, &[]), empty);
         }
     });
 }
@@ -119,11 +87,11 @@ fn chain_lengths() {
     on_chains(31, |kind, size, mut chain| {
         let (key, right) = (size.key_bytes(), chain.len());
         for length in [0, 1, SET, right / 2, right - CODING, right - 1] {
-            assert_eq!((kind.told)(key, &chain[..length]), 2);
+            assert_eq!(kind.told(key, &chain[..length]), 2);
         }
         for longer in [1, 2, CODING, 65_536] {
             chain.resize(right + longer, 0);
-            assert_eq!((kind.told)(key, &chain), 2);
+            assert_eq!(kind.told(key, &chain), 2);
         }
     });
 }
@@ -150,7 +118,7 @@ fn codings() {
             for place in places(CODING) {
                 for way in [0, 1, 2, 9, 16] {
                     let spoil = |c: &mut [u8]| spoilt(&mut c[at..][..CODING], place, way);
-                    let number = kind.changed(size, &chain, spoil);
+                    let number = changed(kind, size, &chain, spoil);
                     assert_eq!(number, if way == 16 { 0 } else { 3 });
                 }
             }
@@ -162,17 +130,16 @@ fn codings() {
 #[test]
 fn the_word_rule() {
     on_chains(33, |kind, size, chain| {
-        let swap = |at: usize| kind.changed(size, &chain, |c| c.swap(at, at + 1));
-        let last = size.rounds();
+        let swap = |at: usize| changed(kind, size, &chain, |c| c.swap(at, at + 1));
+        let ((old, new), last) = (kind.rule(), size.rounds());
         for place in [(0, 0), (0, 14), (4, 7), (7, 0), (7, 14)].map(|(j, v)| CODING * j + v) {
             for (l, w) in (0..=last).flat_map(|l| [(l, 0), (l, 1), (l, 2), (l, 3)]) {
-                let kept = w == kind.old && l < last || w == kind.new && l > 0;
+                let kept = w == old && l < last || w == new && l > 0;
                 let number = swap(set_at(l) + WORD * w + place);
-                let name = kind.name;
                 assert_eq!(
                     number,
                     if kept { 4 } else { 0 },
-                    "{name}, word {w} of set {l}"
+                    "{kind:?}, word {w} of set {l}"
                 );
             }
             assert_eq!(swap(place), 0, "the message set");
@@ -191,7 +158,7 @@ fn masks() {
                 for mask in [0, 1, 2, 16, 255] {
                     let good = mask == 0 || mask == 1 && place % 8 != 0;
                     let at = masks_at(size, l) + place;
-                    let number = kind.changed(size, &chain, |c| c[at] = mask);
+                    let number = changed(kind, size, &chain, |c| c[at] = mask);
                     assert_eq!(
                         number,
                         if good { 0 } else { 5 },
@@ -216,7 +183,7 @@ fn the_lowest_number_first() {
                 other[masks_at(size, l) + if late { MIDDLES - 1 } else { 0 }] = 2;
             }
             if made(4) {
-                let at = set_at(l + 1) + kind.new * WORD;
+                let at = set_at(l + 1) + kind.rule().1 * WORD;
                 other.swap(at, at + 1);
             }
             if made(3) {
@@ -231,7 +198,7 @@ fn the_lowest_number_first() {
             }
             let due = (1..=5).find(|&number| made(number)).unwrap_or(0);
             assert_eq!(
-                (kind.told)(key, &other),
+                kind.told(key, &other),
                 due,
                 "mistakes {choice:05b}, late: {late}"
             );
@@ -243,15 +210,15 @@ fn the_lowest_number_first() {
 #[test]
 fn every_byte() {
     let (mut random, size) = (Random(36), Size::Lea128);
-    for kind in &KINDS {
-        let chain = (kind.valid)(size, &mut random);
+    for kind in KINDS {
+        let chain = kind.random(size, &mut random);
         let mut numbers = [0; 6];
         for at in 0..chain.len() {
             let step = random.bytes(1)[0].max(1);
-            let number = kind.changed(size, &chain, |c| c[at] = c[at].wrapping_add(step));
+            let number = changed(kind, size, &chain, |c| c[at] = c[at].wrapping_add(step));
             numbers[number as usize] += 1;
         }
-        assert_eq!(numbers[1] + numbers[2] + numbers[4], 0, "{}", kind.name);
+        assert_eq!(numbers[1] + numbers[2] + numbers[4], 0, "{kind:?}");
         assert!(numbers[3] >= SET * (size.rounds() + 2) && numbers[5] > 0);
     }
 }

@@ -12,8 +12,8 @@ use reference::Size;
 use shared::archive::{open, sealed_text};
 use shared::book::build_reading;
 use shared::books::{self, Built};
-use shared::driver::{read, seal};
-use shared::pad::{code, padded, Use};
+use shared::driver::read;
+use shared::way::{self, text_read};
 use shared::Random;
 
 /// A book, and what reads the files that it seals; the reading book is the proved library's.
@@ -26,13 +26,6 @@ fn two_books(size: Size, random: &mut Random) -> (Built, Built) {
     (sealing, reading)
 }
 
-/// What is read of a sealed file, decoded by the reading chain's message set.
-fn text_read(reading: &Built, iv: &[u8], sealed: &[u8]) -> Vec<u8> {
-    let (number, out) = read(&reading.book, iv, sealed, sealed.len());
-    assert_eq!(number, 0, "{} bytes", sealed.len());
-    decode_all(reading.message_set(), &out)
-}
-
 /// A message from the pad to the manager and, on the same file, to the archive.
 #[test]
 fn what_is_sealed_is_read() {
@@ -41,14 +34,7 @@ fn what_is_sealed_is_read() {
         let (sealing, reading) = two_books(size, &mut random);
         for n in (0..=50).chain([255, 256, 9_412, LONGEST]) {
             let (message, iv) = (random.bytes(n), random.bytes(16));
-            let text = padded(&message);
-            let (told, coded) = code(Use::Sealing, sealing.message_set(), &message, text.len());
-            assert_eq!(told, Ok((text.len(), None)), "{n} bytes coded");
-            let (number, sealed) = seal(&sealing.book, &iv, &coded, text.len());
-            assert_eq!(number, 0, "{n} bytes sealed");
-            assert!(text_read(&reading, &iv, &sealed) == text, "{size:?}, {n}");
-            let opened = open(&sealing.key, sealing.last_set(), &iv, &sealed, text.len());
-            assert!(opened == Ok(message), "{size:?}, {n} bytes opened");
+            way::sealed(&sealing, &reading, &iv, &message);
         }
     }
 }

@@ -15,6 +15,7 @@ pub mod random;
 pub mod roundtrip;
 pub mod session;
 pub mod version;
+pub mod way;
 
 pub use lent::{FILL, LENGTH};
 pub use random::Random;

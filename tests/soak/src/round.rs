@@ -4,7 +4,7 @@
 use crate::given::Given;
 use crate::tally::Tally;
 use reference::book::ROUND;
-use reference::chain::{self, decode_all};
+use reference::chain;
 use shared::archive::{check, open};
 use shared::book::{
     build, build_reading, build_round, check_chain, check_reading_chain, check_set, Build,
@@ -13,10 +13,11 @@ use shared::books::Built;
 use shared::cmac::cmac;
 use shared::driver::{read, round, rounds, seal, Pass};
 use shared::ink::{self, judge};
-use shared::pad::{code, due, padded, Use};
+use shared::pad::{code, due, Use};
 use shared::roundtrip;
-use shared::session::{tag, Both, Call};
+use shared::session::{Both, Call};
 use shared::version::{PROVED, REFERENCE};
+use shared::way;
 use std::fmt::Debug;
 
 pub struct Round<'a> {
@@ -292,31 +293,16 @@ impl Round<'_> {
     /// A message through all parts by their own calls: what is sealed is read, and comes back.
     fn sealed_way(&mut self) {
         let (message, iv) = (self.given.message(false), self.given.random.block());
-        let (built, reading) = (&self.given.built, &self.given.reading);
-        let (text, n) = (padded(message), message.len());
-        let room = text.len();
-        let (told, coded) = code(Use::Sealing, built.message_set(), message, room);
-        let (number, sealed) = seal(&built.book, &iv, &coded, room);
-        assert_eq!((told, number), (Ok((room, None)), 0), "coded and sealed");
-        let (number, out) = read(&reading.book, &iv, &sealed, room);
-        let plain = decode_all(reading.message_set(), &out);
-        assert!(number == 0 && plain == text, "sealed and read, {n} bytes");
-        let opened = open(&built.key, built.last_set(), &iv, &sealed, room);
-        let same = opened.as_deref() == Ok(message);
-        assert!(same, "sealed and opened, {n} bytes");
+        way::sealed(&self.given.built, &self.given.reading, &iv, message);
     }
 
     /// A message's tag is Valid, and a bit away Invalid.
     fn tagged_way(&mut self) {
         let message = self.given.message(false);
         let built = &self.given.built;
-        let (room, set) = (due(Use::Tag, message.len()), built.last_set());
-        let (told, coded) = code(Use::Tag, built.message_set(), message, room);
-        let (_, kind) = told.unwrap();
-        let mut tag = tag(&built.book, &coded, kind.unwrap());
-        assert_eq!(check(&built.key, set, message, &tag), Ok(true), "the tag");
+        let mut tag = way::tagged(built, message);
         tag[self.given.random.below(16)] ^= 1 << self.given.random.below(8);
-        let told = check(&built.key, set, message, &tag);
+        let told = check(&built.key, built.last_set(), message, &tag);
         assert_eq!(told, Ok(false), "not the tag");
     }
 
