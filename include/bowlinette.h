@@ -25,8 +25,8 @@ extern "C" {
 
 /* The version of this interface. */
 #define BOWLINETTE_VERSION_MAJOR 1
-#define BOWLINETTE_VERSION_MINOR 2
-#define BOWLINETTE_VERSION "1.2"
+#define BOWLINETTE_VERSION_MINOR 3
+#define BOWLINETTE_VERSION "1.3"
 
 /* What is returned. */
 #define BOWLINETTE_DONE 0
@@ -47,6 +47,7 @@ extern "C" {
 #define BOWLINETTE_REFUSED_RECORD 30        /* of an ink file, a record's mark, kind or order, a record that
                                                is missing, its head cut short, or a fifth remark */
 #define BOWLINETTE_REFUSED_RECORD_LENGTH 31 /* a record's length is not allowed, or past the file's end */
+#define BOWLINETTE_REFUSED_RANDOM 32        /* the random bytes ran out */
 
 /* A block, in bytes, and the round keys of one round, in 32-bit words. */
 #define BOWLINETTE_BLOCK_LENGTH 16
@@ -114,6 +115,14 @@ extern "C" {
 #define BOWLINETTE_CHAIN_LENGTH_256 30464
 #define BOWLINETTE_BOOK_LENGTH_256 614416
 #define BOWLINETTE_READING_LENGTH_256 598016
+
+/*
+ * So many random bytes suffice for a chain or a reading chain, nearly always: how many are drawn depends on
+ * the bytes. A call that draws more is refused, and may be made again with more.
+ */
+#define BOWLINETTE_RANDOM_LENGTH_128 19500
+#define BOWLINETTE_RANDOM_LENGTH_192 22500
+#define BOWLINETTE_RANDOM_LENGTH_256 25500
 
 /*
  * Where the parts of a chain of r rounds begin: the message set U, set l (l from 0 to r), and what it has
@@ -188,6 +197,8 @@ static inline const char *bowlinette_text(uint32_t refusal)
     case BOWLINETTE_REFUSED_RECORD_LENGTH:
         return "A record of the ink file has a length that its kind does not allow, or that goes past "
                "the end of the file.";
+    case BOWLINETTE_REFUSED_RANDOM:
+        return "The random bytes ran out.";
     default:
         return "This number is not known.";
     }
@@ -249,6 +260,35 @@ uint32_t bowlinette_check_chain(size_t key_length,
  */
 uint32_t bowlinette_check_reading_chain(size_t key_length,
                                         const uint8_t *chain, size_t chain_length);
+
+/*
+ * Makes a chain for keys of a length from random bytes and writes it to the front of out, which may be
+ * longer: the bytes after the chain stay as they were. Drawn are U, the sets, but for the words that the
+ * word 3 rule fixes, and for each round its middle codings and its masks, but for those of half byte 0. How
+ * many bytes were used up goes to drawn; more may be given, and those after them are not looked at.
+ * Refuses 1 (key length), 9 (out shorter than the chain), then 32 (fewer random bytes than are drawn).
+ * TAKE CARE: the chain is as secret as the random bytes. They are the caller's, from the system's generator
+ * (getrandom), and each is used once: a byte that was drawn must never be given again, to any call, nor be
+ * known to anyone.
+ */
+uint32_t bowlinette_make_chain(size_t key_length,
+                               const uint8_t *random, size_t random_length,
+                               uint8_t *out, size_t out_length,
+                               uint64_t *drawn);
+
+/*
+ * Makes a reading chain in the same way: its set 0 is the set that is given, for which nothing is drawn, and
+ * of the sets after it word 0 is not drawn. For a review screen, set is the last set (set r) of the chain of
+ * the pad whose files are read; key_length is that of the pad's key.
+ * Refuses 1 (key length), 2 (length of the set), 3 (its permutations), 9 (out shorter than the chain), then
+ * 32 (fewer random bytes than are drawn).
+ * TAKE CARE: as above. Random bytes that made the pad's chain must not make its reading chain.
+ */
+uint32_t bowlinette_make_reading_chain(size_t key_length,
+                                       const uint8_t *set, size_t set_length,
+                                       const uint8_t *random, size_t random_length,
+                                       uint8_t *out, size_t out_length,
+                                       uint64_t *drawn);
 
 /*
  * Builds the book of a key and a chain and writes it to the front of out, which may be longer: the
