@@ -3,9 +3,9 @@
 #include <stdio.h>
 #include <stdlib.h>
 
-enum { BLOCK = BOWLINETTE_BLOCK_LENGTH, SET = BOWLINETTE_SET_LENGTH, ROUNDS = BOWLINETTE_ROUNDS_128 };
+enum { BLOCK = BOWLINETTE_BLOCK_LENGTH, SET = BOWLINETTE_SET_LENGTH };
 
-static uint8_t chain[BOWLINETTE_CHAIN_LENGTH_128], book[BOWLINETTE_BOOK_LENGTH_128];
+static uint8_t chain[BOWLINETTE_CHAIN_LENGTH_128], book[BOWLINETTE_BOOK_LENGTH_128], noise[BOWLINETTE_RANDOM_LENGTH_128];
 
 /* Ends the program where a call was refused. */
 static void done(const char *call, uint32_t refusal)
@@ -27,17 +27,6 @@ static void random_bytes(uint8_t *out, size_t n)
     fclose(source);
 }
 
-/* Codings that change nothing, and no masks: a chain for a first look, not for a pad. */
-static void plain_chain(void)
-{
-    size_t i, l;
-    for (i = 0; i < BOWLINETTE_CHAIN_ROUND(ROUNDS, 0); i++)
-        chain[i] = (uint8_t)(i % BOWLINETTE_CODING_LENGTH);
-    for (l = 0; l < ROUNDS; l++)
-        for (i = 0; i < BOWLINETTE_ROUND_MASKS; i++)
-            chain[BOWLINETTE_CHAIN_ROUND(ROUNDS, l) + i] = (uint8_t)(i % BOWLINETTE_CODING_LENGTH);
-}
-
 int main(void)
 {
     static const uint8_t message[] = "ink"; /* with the zero at its end */
@@ -50,9 +39,10 @@ int main(void)
     bowlinette_ink ink;
     uint64_t n;
 
-    /* the works, which has the key */
+    /* the works, which has the key and makes the chain */
     random_bytes(key, sizeof key);
-    plain_chain();
+    random_bytes(noise, sizeof noise);
+    done("make chain", bowlinette_make_chain(sizeof key, noise, sizeof noise, chain, sizeof chain, &n));
     done("build", bowlinette_build(key, sizeof key, chain, sizeof chain, book, sizeof book));
 
     /* the pad codes for sealing, which has the message set; the teller's PC seals, which has the book */

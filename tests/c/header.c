@@ -3,9 +3,9 @@
 #include <stdio.h>
 
 #define SIZE(bits)                                                                            \
-    printf("%d %d %d %d %d\n", BOWLINETTE_KEY_LENGTH_##bits, BOWLINETTE_ROUNDS_##bits,        \
+    printf("%d %d %d %d %d %d\n", BOWLINETTE_KEY_LENGTH_##bits, BOWLINETTE_ROUNDS_##bits,     \
            BOWLINETTE_CHAIN_LENGTH_##bits, BOWLINETTE_BOOK_LENGTH_##bits,                     \
-           BOWLINETTE_READING_LENGTH_##bits)
+           BOWLINETTE_READING_LENGTH_##bits, BOWLINETTE_RANDOM_LENGTH_##bits)
 
 static void show(uint32_t number, const uint8_t *bytes)
 {
@@ -27,6 +27,38 @@ static void checks(void)
     printf("%d", bowlinette_check_set(set, BOWLINETTE_SET_LENGTH) == BOWLINETTE_DONE);
     printf(" %d", bowlinette_check_set(set, 1) == BOWLINETTE_REFUSED_CHAIN_LENGTH);
     printf(" %d\n", bowlinette_check_chain(16, set, sizeof set) == BOWLINETTE_REFUSED_NO_PERMUTATION);
+}
+
+/* A chain and a reading chain that goes on from its last set, made from bytes that are not random, and refused. */
+static void chains(void)
+{
+    static uint8_t noise[BOWLINETTE_RANDOM_LENGTH_192], chain[BOWLINETTE_CHAIN_LENGTH_192];
+    const uint8_t *last = chain + BOWLINETTE_CHAIN_LAST_SET_192;
+    const uint8_t *middles = chain + BOWLINETTE_CHAIN_ROUND(BOWLINETTE_ROUNDS_192, 0);
+    const size_t key = BOWLINETTE_KEY_LENGTH_192;
+    uint8_t set[BOWLINETTE_SET_LENGTH];
+    uint64_t n = 0;
+    uint32_t number;
+    size_t i;
+
+    for (i = 0; i < sizeof noise; i++)
+        noise[i] = (uint8_t)(i % 251 * 77);
+    number = bowlinette_make_chain(key, noise, sizeof noise, chain, sizeof chain, &n);
+    show(number, middles);
+    show(number, middles + BOWLINETTE_ROUND_MASKS);
+    printf("%lu", (unsigned long)n);
+    printf(" %d", bowlinette_make_chain(key, noise, n - 1, chain, sizeof chain, &n) == BOWLINETTE_REFUSED_RANDOM);
+    printf(" %d\n", bowlinette_make_chain(key, noise, n, chain, sizeof chain - 1, &n) == BOWLINETTE_REFUSED_ROOM);
+    for (i = 0; i < sizeof set; i++)
+        set[i] = last[i];
+    number = bowlinette_make_reading_chain(key, set, sizeof set, noise, sizeof noise, chain, sizeof chain, &n);
+    show(number, chain + BOWLINETTE_CHAIN_SET(1));
+    show(number, middles);
+    printf("%lu", (unsigned long)n);
+    number = bowlinette_make_reading_chain(key, set, sizeof set - 1, noise, 0, chain, sizeof chain, &n);
+    printf(" %d", number == BOWLINETTE_REFUSED_CHAIN_LENGTH);
+    number = bowlinette_make_reading_chain(key, noise, sizeof set, noise, 0, chain, sizeof chain, &n);
+    printf(" %d\n", number == BOWLINETTE_REFUSED_NO_PERMUTATION);
 }
 
 /* A short message and one of a block, coded for sealing and for a tag by identity codings. */
@@ -208,6 +240,7 @@ int main(void)
         printf(" %08lx", (unsigned long)row[i]);
     printf("\n");
     checks();
+    chains();
     codes();
     driver();
     reading(key, sizeof key);

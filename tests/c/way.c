@@ -1,8 +1,8 @@
 /*
- * The C library as a bank's programs would use it: for each key size a message goes the whole way from
- * the pad over the driver to a reader and, in an ink file, to the archive, and every function is made to
- * give each of its refusals. After a refusal nothing that was lent may have changed; after a success
- * nothing after what is written.
+ * The C library as a bank's programs would use it: for each key size chains are made, and a message goes
+ * the whole way from the pad over the driver to a reader and, in an ink file, to the archive; and every
+ * function is made to give each of its refusals. After a refusal nothing that was lent may have changed;
+ * after a success nothing after what is written.
  * Prints how many checks there were and how many of them failed.
  */
 #include "bowlinette.h"
@@ -66,15 +66,16 @@ static int untouched(size_t n)
     {                                                                                                \
         BOWLINETTE_KEY_LENGTH_##bits, BOWLINETTE_ROUNDS_##bits, BOWLINETTE_CHAIN_LENGTH_##bits,      \
         BOWLINETTE_BOOK_LENGTH_##bits, BOWLINETTE_READING_LENGTH_##bits,                             \
-        BOWLINETTE_READING_FOLDS_##bits                                                              \
+        BOWLINETTE_READING_FOLDS_##bits, BOWLINETTE_RANDOM_LENGTH_##bits                             \
     }
 
 static const struct size {
-    size_t key, rounds, chain, book, reading, folds;
+    size_t key, rounds, chain, book, reading, folds, random;
 } sizes[] = {SIZE(128), SIZE(192), SIZE(256)};
 
 static uint8_t key[32], chain[BOWLINETTE_CHAIN_LENGTH_256 + 1], book[BOWLINETTE_BOOK_LENGTH_256 + BLOCK];
 static uint8_t reading_chain[BOWLINETTE_CHAIN_LENGTH_256 + 1], reading[BOWLINETTE_READING_LENGTH_256 + BLOCK];
+static uint8_t noise[BOWLINETTE_RANDOM_LENGTH_256];
 /* Coded and sealed texts have room for a block more than the longest. */
 static uint8_t message[LONGEST + 1], coded[LONGEST + 1 + BLOCK], sealed[LONGEST + 1 + BLOCK], tag[BLOCK];
 static const uint8_t iv[BLOCK] = {3, 1, 4, 1, 5, 9, 2, 6, 5, 3, 5, 8, 9, 7, 9, 3};
@@ -90,38 +91,70 @@ static void coding(uint8_t *place, size_t n)
         place[i] = (uint8_t)((i * (2 * (n % 8) + 1) + n / 8) % 16);
 }
 
-/* The parts of a chain for a size, others for each n; no word is kept from set to set yet. */
-static void make_parts(uint8_t *place, const struct size *s, size_t n)
+/* Bytes that look random, others for each n: a test may be foretold, a pad's chain may not. */
+static void make_noise(uint32_t n)
 {
-    const size_t sets = s->rounds + 2;
-    size_t i, l;
+    size_t i;
 
-    for (i = 0; i < 32 * sets; i++)
-        coding(place + BOWLINETTE_CODING_LENGTH * i, 5 * i + n);
-    for (l = 0; l < s->rounds; l++) {
-        uint8_t *round = place + BOWLINETTE_CHAIN_ROUND(s->rounds, l);
-        for (i = 0; i < 24; i++) {
-            coding(round + BOWLINETTE_CODING_LENGTH * i, 7 * i + l);
-            round[BOWLINETTE_ROUND_MASKS + i] = (uint8_t)(i % 8 != 0 && (i + l) % 3 == 0);
-        }
+    for (i = 0; i < sizeof noise; i++) {
+        n = 1664525 * n + 1013904223;
+        noise[i] = (uint8_t)(n >> 24);
     }
 }
 
-/* Gives word `to` of each set after set 0 the codings of word `from` of the set before it. */
-static void keep_words(uint8_t *place, const struct size *s, size_t from, size_t to)
+/* Makes a chain or, where there is a set, a reading chain with that set, from a copy of just n bytes of the noise. */
+static uint32_t make_from(const struct size *s, const uint8_t *set, size_t n, size_t out, uint64_t *drawn)
 {
-    const size_t word = SET / 4;
-    size_t l;
+    uint8_t *copy = malloc(n + (n == 0));
+    uint32_t number;
 
-    for (l = 0; l < s->rounds; l++)
-        memcpy(place + BOWLINETTE_CHAIN_SET(l + 1) + word * to, place + BOWLINETTE_CHAIN_SET(l) + word * from, word);
+    CHECK(copy != NULL);
+    memcpy(copy, noise, n);
+    number = set == NULL ? bowlinette_make_chain(s->key, copy, n, room.bytes, out, drawn)
+                         : bowlinette_make_reading_chain(s->key, set, SET, copy, n, room.bytes, out, drawn);
+    CHECK(memcmp(copy, noise, n) == 0);
+    free(copy);
+    return number;
 }
 
-/* The works: the book, and a round of it by itself. */
+/* The same to a place. The bytes that were drawn make it again, and one fewer are refused. */
+static void make(uint8_t *place, const struct size *s, const uint8_t *set)
+{
+    uint64_t drawn = 0, again = 0;
+
+    fresh();
+    CHECK(make_from(s, set, s->random, sizeof room.bytes, &drawn) == BOWLINETTE_DONE);
+    CHECK(drawn < s->random && untouched(s->chain));
+    memcpy(place, room.bytes, s->chain);
+    fresh();
+    CHECK(make_from(s, set, drawn, s->chain, &again) == BOWLINETTE_DONE);
+    CHECK(again == drawn && memcmp(room.bytes, place, s->chain) == 0 && untouched(s->chain));
+    REFUSED(32, make_from(s, set, drawn - 1, s->chain, &room.length));
+}
+
+/* From zeros each coding of a chain has v + 1 at v, and 0 at 15, and each mask is 0; 255 is skipped for ever. */
+static void chains_of_one_byte(const struct size *s)
+{
+    size_t i, l, others = 0;
+
+    memset(noise, 0, sizeof noise);
+    make(chain, s, NULL);
+    for (i = 0; i < BOWLINETTE_CHAIN_ROUND(s->rounds, 0); i++)
+        others += chain[i] != (i + 1) % 16;
+    for (l = 0; l < s->rounds; l++)
+        for (i = 0; i < BOWLINETTE_ROUND_MASKS + 24; i++)
+            others += chain[BOWLINETTE_CHAIN_ROUND(s->rounds, l) + i] != (i < BOWLINETTE_ROUND_MASKS ? (i + 1) % 16 : 0);
+    CHECK(others == 0);
+    memset(noise, 255, sizeof noise);
+    REFUSED(32, make_from(s, NULL, sizeof noise, s->chain, &room.length));
+    REFUSED(32, make_from(s, chain, sizeof noise, s->chain, &room.length));
+}
+
+/* The works: the chain, the book, and a round of it by itself. */
 static void works(const struct size *s)
 {
-    make_parts(chain, s, s->key);
-    keep_words(chain, s, 0, 3);
+    make_noise((uint32_t)s->key);
+    make(chain, s, NULL);
     CHECK(bowlinette_check_chain(s->key, chain, s->chain) == BOWLINETTE_DONE);
     CHECK(bowlinette_check_set(chain, SET) == BOWLINETTE_DONE);
     memset(book, FILL, sizeof book);
@@ -150,11 +183,12 @@ static uint8_t largest(size_t from, size_t to)
  */
 static void works_for_reading(const struct size *s)
 {
+    const uint8_t *last = chain + BOWLINETTE_CHAIN_SET(s->rounds);
     size_t l;
 
-    make_parts(reading_chain, s, s->key + 3);
-    memcpy(reading_chain + BOWLINETTE_CHAIN_SET(0), chain + BOWLINETTE_CHAIN_SET(s->rounds), SET);
-    keep_words(reading_chain, s, 3, 0);
+    make_noise((uint32_t)s->key + 1);
+    make(reading_chain, s, last);
+    CHECK(memcmp(reading_chain + BOWLINETTE_CHAIN_SET(0), last, SET) == 0);
     CHECK(bowlinette_check_reading_chain(s->key, reading_chain, s->chain) == BOWLINETTE_DONE);
     CHECK(bowlinette_check_reading_chain(s->key, chain, s->chain) == BOWLINETTE_REFUSED_WORD_RULE);
     CHECK(bowlinette_check_chain(s->key, reading_chain, s->chain) == BOWLINETTE_REFUSED_WORD_RULE);
@@ -257,10 +291,19 @@ static void offsets(const struct size *s)
     CHECK(s->folds + BOWLINETTE_BOOK_GROUP(1) - BOWLINETTE_BOOK_GROUP(0) == s->reading);
 }
 
+/* The version as a text is that of its two numbers. */
+static void version(void)
+{
+    char text[16];
+
+    sprintf(text, "%d.%d", BOWLINETTE_VERSION_MAJOR, BOWLINETTE_VERSION_MINOR);
+    CHECK(strcmp(text, BOWLINETTE_VERSION) == 0);
+}
+
 /* Every number has a sentence of its own, and a number that is none says so. */
 static void texts(void)
 {
-    static const uint32_t numbers[] = {0, 1, 2, 3, 4, 5, 6, 7, 8, 9, 10, 11, 21, 22, 30, 31, 99};
+    static const uint32_t numbers[] = {0, 1, 2, 3, 4, 5, 6, 7, 8, 9, 10, 11, 21, 22, 30, 31, 32, 99};
     size_t i, k;
 
     for (i = 0; i < sizeof numbers / sizeof numbers[0]; i++)
@@ -303,6 +346,38 @@ static void refusals_of_blocks(void)
     REFUSED(7, bowlinette_first_rounds(key, 24, 3, iv, 1, room.bytes));
     REFUSED(1, bowlinette_round_keys(key, 8, 0, row));
     CHECK(row[0] == 1 && row[5] == 6);
+}
+
+/* Refusals 1, 2, 3, 9 and 32 of the makers, and which of several is told. */
+static void refusals_of_the_makers(const struct size *s)
+{
+    const size_t n = s->random, out = s->chain;
+    uint8_t set[SET];
+    size_t i;
+
+    memcpy(set, chain + BOWLINETTE_CHAIN_SET(s->rounds), SET);
+    REFUSED(1, bowlinette_make_chain(s->key + 1, noise, n, room.bytes, out, &room.length));
+    REFUSED(1, bowlinette_make_chain(s->key - 1, noise, 0, room.bytes, 0, &room.length));
+    REFUSED(9, bowlinette_make_chain(s->key, noise, n, room.bytes, out - 1, &room.length));
+    REFUSED(9, bowlinette_make_chain(s->key, noise, 0, room.bytes, 0, &room.length));
+    REFUSED(32, bowlinette_make_chain(s->key, noise, 0, room.bytes, out, &room.length));
+    REFUSED(1, bowlinette_make_reading_chain(s->key + 1, set, SET, noise, n, room.bytes, out, &room.length));
+    REFUSED(1, bowlinette_make_reading_chain(0, set, SET - 1, noise, 0, room.bytes, 0, &room.length));
+    REFUSED(2, bowlinette_make_reading_chain(s->key, set, SET - 1, noise, n, room.bytes, out, &room.length));
+    REFUSED(2, bowlinette_make_reading_chain(s->key, chain, SET + 1, noise, n, room.bytes, out, &room.length));
+    REFUSED(2, bowlinette_make_reading_chain(s->key, message, SET + 1, noise, 0, room.bytes, 0, &room.length));
+    REFUSED(9, bowlinette_make_reading_chain(s->key, set, SET, noise, n, room.bytes, out - 1, &room.length));
+    REFUSED(9, bowlinette_make_reading_chain(s->key, set, SET, noise, 0, room.bytes, 0, &room.length));
+    REFUSED(32, bowlinette_make_reading_chain(s->key, set, SET, noise, 0, room.bytes, out, &room.length));
+    for (i = 0; i < 32; i++) {
+        uint8_t *at = set + BOWLINETTE_CODING_LENGTH * i + i % BOWLINETTE_CODING_LENGTH;
+        const uint8_t was = *at;
+        *at = (uint8_t)((was + 1) % 16);
+        REFUSED(3, bowlinette_make_reading_chain(s->key, set, SET, noise, n, room.bytes, out, &room.length));
+        *at = (uint8_t)(was + 16);
+        REFUSED(3, bowlinette_make_reading_chain(s->key, set, SET, noise, 0, room.bytes, 0, &room.length));
+        *at = was;
+    }
 }
 
 /* A chain with one byte changed, which both checking and building must refuse with the number. */
@@ -719,11 +794,13 @@ int main(void)
 
     for (i = 0; i < sizeof key; i++)
         key[i] = (uint8_t)(29 * i + 1);
+    version();
     texts();
     refusals_of_blocks();
     for (i = 0; i < sizeof sizes / sizeof sizes[0]; i++) {
         const struct size *s = &sizes[i];
         offsets(s);
+        chains_of_one_byte(s);
         works(s);
         works_for_reading(s);
         blocks(s);
@@ -733,6 +810,7 @@ int main(void)
             ink_file(s, lengths[n]);
             archive(s, lengths[n]);
         }
+        refusals_of_the_makers(s);
         refusals_of_the_works(s);
         refusals_of_the_works_for_reading(s);
         refusals_of_reading(s);

@@ -50,6 +50,24 @@ mod c {
             chain: *const u8,
             chain_length: usize,
         ) -> u32;
+        pub fn bowlinette_make_chain(
+            key_length: usize,
+            random: *const u8,
+            random_length: usize,
+            out: *mut u8,
+            out_length: usize,
+            drawn: *mut u64,
+        ) -> u32;
+        pub fn bowlinette_make_reading_chain(
+            key_length: usize,
+            set: *const u8,
+            set_length: usize,
+            random: *const u8,
+            random_length: usize,
+            out: *mut u8,
+            out_length: usize,
+            drawn: *mut u64,
+        ) -> u32;
         pub fn bowlinette_build(
             key: *const u8,
             key_length: usize,
@@ -328,6 +346,45 @@ pub fn check_chain(key_length: usize, chain: &[u8]) -> u32 {
 #[inline]
 pub fn check_reading_chain(key_length: usize, chain: &[u8]) -> u32 {
     unsafe { c::bowlinette_check_reading_chain(key_length, chain.as_ptr(), chain.len()) }
+}
+
+/// A chain for keys of so many bytes made from random bytes, to the front of out, and how many of these were
+/// drawn, into drawn.
+#[inline]
+pub fn make_chain(key_length: usize, random: &[u8], out: &mut [u8], drawn: &mut u64) -> u32 {
+    unsafe {
+        c::bowlinette_make_chain(
+            key_length,
+            random.as_ptr(),
+            random.len(),
+            out.as_mut_ptr(),
+            out.len(),
+            drawn,
+        )
+    }
+}
+
+/// A reading chain made from random bytes and a given set 0.
+#[inline]
+pub fn make_reading_chain(
+    key_length: usize,
+    set: &[u8],
+    random: &[u8],
+    out: &mut [u8],
+    drawn: &mut u64,
+) -> u32 {
+    unsafe {
+        c::bowlinette_make_reading_chain(
+            key_length,
+            set.as_ptr(),
+            set.len(),
+            random.as_ptr(),
+            random.len(),
+            out.as_mut_ptr(),
+            out.len(),
+            drawn,
+        )
+    }
 }
 
 /// The book of a key and a chain, to the front of out.

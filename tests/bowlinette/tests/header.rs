@@ -1,9 +1,11 @@
 //! include/bowlinette.h as a C program sees it: ../c/header.c is compiled with it as C99, linked
 //! with the static library and run, and must print what the reference says.
 
+use reference::chain::{SET, WORD};
 use reference::driver::{self, Session};
 use reference::ink::{self, Fields};
-use reference::{book, lea, Size};
+use reference::{book, lea, maker, Size};
+use shared::maker::enough;
 use std::path::Path;
 use std::process::Command;
 
@@ -28,8 +30,8 @@ fn due() -> Vec<String> {
     let mut lines: Vec<String> = Vec::new();
     for s in Size::ALL {
         let (key, rounds, chain) = (s.key_bytes(), s.rounds(), s.chain_bytes());
-        let (book, reading) = (s.book_bytes(), s.reading_bytes());
-        lines.push(format!("{key} {rounds} {chain} {book} {reading}"));
+        let (book, reading, random) = (s.book_bytes(), s.reading_bytes(), enough(s));
+        lines.push(format!("{key} {rounds} {chain} {book} {reading} {random}"));
     }
     lines.push(line(lea::encipher(&key, &block)));
     lines.push(line(lea::decipher(&key, &block)));
@@ -40,6 +42,7 @@ fn due() -> Vec<String> {
     let words: String = row.iter().map(|w| format!(" {w:08x}")).collect();
     lines.push(format!("1{words}"));
     lines.push("1 1 1".into());
+    lines.extend(due_chains());
     lines.push(line(Ok(*b"in ink\x0a\x0a\x0a\x0a\x0a\x0a\x0a\x0a\x0a\x0a")));
     lines.push(line(Ok(*b"in ink\x80\0\0\0\0\0\0\0\0\0")));
     lines.push("1 1 1 1 1 1".into());
@@ -52,6 +55,34 @@ fn due() -> Vec<String> {
     lines
 }
 
+/// So many bytes that are not random.
+fn noise(count: usize) -> Vec<u8> {
+    (0..count).map(|i| (i % 251 * 77) as u8).collect()
+}
+
+/// Those of made chains: a middle coding and masks, and a coding that the given set fixes and a middle coding,
+/// each with how many bytes were drawn.
+fn due_chains() -> Vec<String> {
+    let (size, key) = (Size::Lea192, 24);
+    let (noise, mut out) = (noise(enough(size)), vec![0; size.chain_bytes()]);
+    let part = |out: &[u8], at: usize| line(Ok(out[at..][..16].try_into().unwrap()));
+    let (middles, last) = (SET * (size.rounds() + 2), SET * (size.rounds() + 1));
+    let n = maker::make_chain(key, &noise, &mut out).unwrap();
+    let chain = [
+        part(&out, middles),
+        part(&out, middles + 384),
+        format!("{n} 1 1"),
+    ];
+    let set = out[last..][..SET].to_vec();
+    let n = maker::make_reading_chain(key, &set, &noise, &mut out).unwrap();
+    let reading = [
+        part(&set, 3 * WORD),
+        part(&out, middles),
+        format!("{n} 1 1"),
+    ];
+    [chain, reading].concat()
+}
+
 /// Two blocks.
 fn two_blocks() -> Vec<u8> {
     (0..32).map(|i| (13 * i) as u8).collect()
@@ -60,9 +91,7 @@ fn two_blocks() -> Vec<u8> {
 /// Those of the driver.
 fn due_driver() -> Vec<String> {
     let size = Size::Lea192;
-    let book: Vec<u8> = (0..size.book_bytes())
-        .map(|i| (i % 251 * 77) as u8)
-        .collect();
+    let book = noise(size.book_bytes());
     let coded = two_blocks();
     let (first, last) = coded.split_at(16);
     let mut sealed = [0; 32];

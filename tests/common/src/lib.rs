@@ -10,6 +10,7 @@ pub mod cmac;
 pub mod driver;
 pub mod ink;
 pub mod lent;
+pub mod maker;
 pub mod pad;
 pub mod random;
 pub mod roundtrip;

@@ -8,6 +8,7 @@ use reference::Size;
 use shared::archive::sealed_text;
 use shared::books::{self, Built};
 use shared::ink::{kind, record, remark_length, Owned, REMARK};
+use shared::maker::enough;
 use shared::Random;
 
 /// What a round of the soak draws from: its numbers, a size with a key, a chain and their book, what
@@ -127,6 +128,25 @@ impl<'a> Given<'a> {
             }
         }
         set
+    }
+
+    /// Random bytes to make a chain from, as many as are enough; or fewer, or with so many high ones that more
+    /// are skipped, which then may be enough or not.
+    pub fn draws(&mut self, wrong: bool) -> Vec<u8> {
+        let enough = enough(self.size);
+        if !wrong {
+            return self.random.bytes(enough);
+        }
+        if self.random.below(3) == 0 {
+            let length = self.random.below(enough);
+            return self.random.bytes(length);
+        }
+        let length = enough + self.random.below(enough);
+        let mut bytes = self.random.bytes(length);
+        for byte in bytes.iter_mut().step_by(1 + self.random.below(8)) {
+            *byte |= 0xf0;
+        }
+        bytes
     }
 
     /// One coding of so many from a place on made wrong: an image over 15, or one that is there twice.

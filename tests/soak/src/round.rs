@@ -10,9 +10,11 @@ use shared::book::{
     build, build_reading, build_round, check_chain, check_reading_chain, check_set, Build,
 };
 use shared::books::Built;
+use shared::chains::Kind;
 use shared::cmac::cmac;
 use shared::driver::{read, round, rounds, seal, Pass};
 use shared::ink::{self, judge};
+use shared::maker::make;
 use shared::pad::{code, due, Use};
 use shared::roundtrip;
 use shared::session::{Both, Call};
@@ -39,6 +41,7 @@ impl Round<'_> {
             self.check();
             self.ink();
         }
+        self.make();
         self.build();
         self.build_reading();
         self.build_round();
@@ -110,6 +113,30 @@ impl Round<'_> {
         );
         self.tally.add("check_set", check_set(&set));
         assert!((chain, reading, set) == before, "chains and set");
+    }
+
+    /// Chains and reading chains from random bytes. Those that were drawn make the same chain again, and one
+    /// fewer are too few.
+    fn make(&mut self) {
+        for (name, kind) in [
+            ("make_chain", Kind::Sealing),
+            ("make_reading_chain", Kind::Reading),
+        ] {
+            let [k, s, b, r] = self.given.wrong();
+            let (key, random) = (self.given.key(k).len(), self.given.draws(b));
+            let set = self.given.set(self.given.size.rounds() + 1, s);
+            let room = self.given.room(self.given.size.chain_bytes(), r);
+            let told = make(kind, key, &set, &random, room);
+            self.count(name, &told);
+            if let Ok((n, _)) = told {
+                let again = make(kind, key, &set, &random[..n], room);
+                assert!(again == told, "{name}: from the {n} bytes drawn");
+                self.count(name, &again);
+                let fewer = make(kind, key, &set, &random[..n - 1], room);
+                assert_eq!(fewer, Err(32), "{name}: from fewer than {n} bytes");
+                self.count(name, &fewer);
+            }
+        }
     }
 
     fn rounds(&mut self) {

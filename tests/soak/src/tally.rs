@@ -4,7 +4,7 @@ use std::collections::BTreeMap;
 use std::fmt::{Display, Formatter, Result};
 
 /// Every operation, in the order of the header, and the two round trips.
-const OPERATIONS: [&str; 25] = [
+const OPERATIONS: [&str; 27] = [
     "encipher",
     "decipher",
     "first_rounds",
@@ -12,6 +12,8 @@ const OPERATIONS: [&str; 25] = [
     "check_set",
     "check_chain",
     "check_reading_chain",
+    "make_chain",
+    "make_reading_chain",
     "build",
     "build_round",
     "build_reading",
