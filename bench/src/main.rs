@@ -5,6 +5,7 @@ mod archive;
 mod book;
 mod driver;
 mod ink;
+mod maker;
 mod packed;
 mod packed_reading;
 mod parts;
@@ -13,6 +14,7 @@ mod timing;
 
 use driver::Shape;
 use reference::Size;
+use shared::chains::Kind;
 use timing::{shown, Times};
 
 /// The messages' lengths: a signature, and the longest.
@@ -38,6 +40,8 @@ fn beside(name: &str, first: &[Times; 3], second: &[Times; 3]) -> String {
 fn product() {
     let key = |size: Size| format!("{:>19}", format!("key of {}", size.key_bytes()));
     println!("{:<14}{:>8}{}", "", "message", Size::ALL.map(key).concat());
+    row("make_chain", "", |size| maker::make(Kind::Sealing, size));
+    row("make_reading", "", |size| maker::make(Kind::Reading, size));
     let build = row("build", "", book::build);
     let build_reading = row("build_reading", "", book::build_reading);
     let mut ratios = vec![beside("build_reading : build", &build_reading, &build)];

@@ -1,12 +1,13 @@
 //! How much stack each operation uses.
 
-use crate::{ink, LENGTHS};
+use crate::{ink, maker, LENGTHS};
 use bowlinette::Session;
 use reference::book::ROUND;
 use reference::chain::SET;
 use reference::Size;
 use shared::archive::sealed_text;
 use shared::books::{self, Built};
+use shared::chains::Kind;
 use shared::ink::proved;
 use shared::Random;
 use std::arch::asm;
@@ -111,6 +112,17 @@ fn of_keys(g: &Given) -> Vec<(&'static str, usize)> {
     ]
 }
 
+/// The operations that make a chain.
+fn of_makers(size: Size) -> Vec<(&'static str, usize)> {
+    let given = maker::Given::new(size);
+    let (mut out, mut drawn) = (vec![0; size.chain_bytes()], 0);
+    let mut make = |kind| given.proved(kind, &mut out, &mut drawn);
+    vec![
+        ("make_chain", used(|| make(Kind::Sealing))),
+        ("make_reading_chain", used(|| make(Kind::Reading))),
+    ]
+}
+
 /// The operations on a book.
 fn of_books(g: &Given) -> Vec<(&'static str, usize)> {
     let (book, block) = (g.built.book.as_slice(), &g.block);
@@ -176,8 +188,13 @@ fn of_ink() -> Vec<(&'static str, usize)> {
 pub fn most() -> Vec<(&'static str, usize)> {
     let mut most = of_ink();
     for given in Size::ALL.map(Given::new) {
-        let operations = [of_keys(&given), of_books(&given), of_messages(&given)].concat();
-        for (name, bytes) in operations {
+        let operations = [
+            of_keys(&given),
+            of_makers(given.built.size()),
+            of_books(&given),
+            of_messages(&given),
+        ];
+        for (name, bytes) in operations.concat() {
             match most.iter_mut().find(|(other, _)| *other == name) {
                 Some((_, most)) => *most = bytes.max(*most),
                 None => most.push((name, bytes)),
