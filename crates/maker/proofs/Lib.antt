@@ -9,3 +9,4 @@ pub mod DrawTurns
 pub mod ChainTurns
 pub mod MakeAnswers
 pub mod MakerTheorem
+pub mod Example

@@ -69,9 +69,9 @@ loop-again c =
     let s = e .args .random .now in (
       omega (arith, l .loop .inv .0),
       simp length-set (l .loop .inv .1),
-      shuffle-turn s (l .loop .place) (l .loop .at) (d .draw-number .result .at) (d .before .loop-test .taken) (d .draw-number .ensures .1)
+      shuffle-turn s (l .loop .place) (l .loop .at) (d .draw-number .result .at) (omega (arith, d .before .loop-test .taken)) (d .draw-number .ensures .1)
           (l .loop .out) _ (d .draw-number .result .number) (d .draw-number .ensures .0) (l .loop .inv .2),
-      draws-turn s (l .loop .place) (l .loop .at) (d .draw-number .result .at) (d .before .loop-test .taken) (d .draw-number .ensures .1) _ (l .loop .inv .3),
+      draws-turn s (l .loop .place) (l .loop .at) (d .draw-number .result .at) (omega (arith, d .before .loop-test .taken)) (d .draw-number .ensures .1) _ (l .loop .inv .3),
     )
 
 same-length : tie.Need-same-length Inv-loop μ-loop

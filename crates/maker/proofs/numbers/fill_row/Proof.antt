@@ -19,7 +19,7 @@ abbrev μ-loop : tie.MeasureT-loop
 μ-loop k row₀ limit b₀ row b = limit - b
 
 sub-limit : tie.Need-sub-limit Inv-loop μ-loop
-sub-limit c = mod-le 256 (c .before .args .k + 1)
+sub-limit c = mod-le 256 _
 
 loop-holds : tie.Need-loop-holds Inv-loop μ-loop
 unfolding tab

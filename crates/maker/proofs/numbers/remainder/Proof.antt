@@ -8,7 +8,7 @@ use Rattle.maker.proofs.numbers.remainder.Statement.{statement}
 use Rattle.maker.proofs.numbers.remainder.Tie as tie
 
 returns : tie.Need-returns
-returns c = let a = c .before .args in remainder-first (a .k) (a .b) (c .if1 .taken)
+returns c = let a = c .before .args in remainder-first (a .k) (a .b) (omega (arith, c .if1 .taken))
 
 returns-2 : tie.Need-returns-2
 returns-2 c =
