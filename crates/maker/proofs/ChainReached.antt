@@ -1,16 +1,16 @@
 -- Every valid chain comes out of some bytes: of 15 for each coding that is neither fixed nor given and one for each mask but those at
 -- j = 0, of which none is skipped.
-use mathlib.Core.Path.{_≡_, refl, sym, ap, ap₂, _∙_}
+use mathlib.Core.Path.{_≡_, refl, sym, ap, _∙_}
 use mathlib.Core.Bool.{Bool, true, false, cond}
-use mathlib.Core.List.{List, [], _∷_, _++_, append-assoc, append-nil}
+use mathlib.Core.List.{List, [], _∷_, _++_, append-assoc}
 use Prim.Native.Nat.{ℕ, zero, suc, _+_, _-_, _*_, _/_, _%_, _≤_, _<_}
 use native.Mathlib.Nat.{mod-eq-of-lt, mul-suc, mul-zero}
-use native.Mathlib.Decide.{decLt, ℕ-discrete}
+use native.Mathlib.Decide.{ℕ-discrete}
 use native.Mathlib.Omega.{arith}
-use lib.Dec.{lit<, eqb}
+use lib.Dec.{lit<}
 use lib.ListN.{length, getD, take, drop, length-append, length-drop, take-append-drop}
 use lib.Seq.{getD-drop, getD-take, drop-at, drop-drop, take-all, take-add, length-take-le, ext-getD}
-use Rattle.lists.specs.Tabulation.{tab, chunks}
+use Rattle.lists.specs.Tabulation.{chunks}
 use Rattle.lists.specs.Blocks.{Bytes}
 use Rattle.lists.specs.Every.{every}
 use Rattle.lists.proofs.EveryLaws.{and-true}
@@ -18,7 +18,7 @@ use Rattle.lists.proofs.TabulationLaws.{tab-ext}
 use Rattle.lists.proofs.ChunkLaws.{chunks-ext}
 use Rattle.lists.proofs.PartLaws.{tab-part}
 use Rattle.lists.proofs.BlockLaws.{bytes-append}
-use Rattle.cipher.specs.KeySize.{rounds, chainLength}
+use Rattle.cipher.specs.KeySize.{rounds}
 use Rattle.cipher.specs.Coding.{Permutation, codingAt}
 use Rattle.cipher.specs.Chain.{roundBytes, ChainBy, arePermutations, codingRuleHolds}
 use Rattle.cipher.specs.declared.size.KeySize.{KeySize}
@@ -26,7 +26,8 @@ use Rattle.cipher.proofs.ChainTests.{permutations-tested, tested-codings}
 use Rattle.maker.specs.Laws.{IsCoding}
 use Rattle.maker.specs.Draw.{codingFrom, codingDraws}
 use Rattle.maker.specs.Plan.{Plan, TwoWords, fixedCoding, source, givenCoding, undrawn}
-use Rattle.maker.specs.MadeChain.{begins, left, setUse, freeCoding, setCoding, fixedMask, maskUse, maskFrom, middleUse, middlesDraw, middlesFrom, masksDraw, masksFrom, roundDraws, roundFrom, setsDraw, setsFrom, roundUse, roundsDraw, roundsFrom, chainDraws, chainMade}
+use Rattle.maker.specs.MadeChain.{begins, left, setUse, freeCoding, setCoding, fixedMask, maskUse, maskFrom, middleUse, middlesDraw, middlesFrom, masksDraw, masksFrom, roundDraws}
+use Rattle.maker.specs.MadeChain.{roundFrom, setsDraw, setsFrom, roundUse, roundsDraw, roundsFrom, chainDraws, chainMade}
 use Rattle.maker.proofs.DrawCounts.{after}
 use Rattle.maker.proofs.CodingDrawn.{sends, bytesFor, length-bytes, low-bytes, coding-reached, draws-reached}
 use Rattle.maker.proofs.ChainValid.{codingOf}

@@ -7,16 +7,16 @@ use native.Mathlib.Nat.{le-of-eq, add-sub-cancel-left}
 use native.Mathlib.Numerals.{add-one}
 use native.Mathlib.Decide.{ℕ-discrete}
 use native.Mathlib.Omega.{arith}
-use lib.ListN.{length, getD, take, drop, length-drop, length-append}
-use lib.Seq.{drop-drop, getD-drop, length-take-le, drop-append-le, take-append-le}
-use Rattle.lists.specs.Tabulation.{tab, chunks}
+use lib.ListN.{length, getD, take, drop, length-drop}
+use lib.Seq.{drop-drop, getD-drop, drop-append-le, take-append-le}
+use Rattle.lists.specs.Tabulation.{chunks}
 use Rattle.lists.proofs.ChunkLaws.{chunks-more, length-chunks, chunk-at}
 use Rattle.lists.proofs.PartLaws.{put-more, grown-whole}
 use Rattle.maker.specs.Draw.{codingFrom, codingDraws}
 use Rattle.maker.specs.Plan.{Plan, TwoWords, fixedCoding, source, givenCoding, undrawn}
-use Rattle.maker.specs.MadeChain.{begins, left, setUse, freeCoding, setCoding, fixedMask, maskUse, maskFrom, middleUse, middlesDraw, middlesFrom, masksDraw, masksFrom, roundDraws, roundFrom, setsDraw, setsFrom, roundUse, roundsDraw, roundsFrom, chainDraws, chainMade}
-use Rattle.maker.proofs.CodingDrawn.{coding-drawn}
-use Rattle.maker.proofs.DrawCounts.{Within, within-coding, within-begins, after, within-after}
+use Rattle.maker.specs.MadeChain.{begins, left, setUse, freeCoding, setCoding, fixedMask, maskUse, maskFrom, middleUse, middlesDraw, middlesFrom, masksDraw, masksFrom, roundDraws}
+use Rattle.maker.specs.MadeChain.{roundFrom, setsDraw, setsFrom, roundsDraw, roundsFrom, chainDraws, chainMade}
+use Rattle.maker.proofs.DrawCounts.{Within, within-coding, within-begins}
 use Rattle.maker.proofs.DrawTurns.{near}
 use Rattle.maker.proofs.Places.{source-free, source-fixed, source-lt, free-source, mask-fixed, mask-free}
 use Rattle.maker.proofs.ChainValid.{codingOf, length-setCoding, set-same}
@@ -161,10 +161,6 @@ written-none g d = refl
 
 pub written-all : (g : ℕ → List ℕ) (d₀ d : List ℕ) (n k : ℕ) → d ≡ chunks k g ++ drop (16 * k) d₀ → k ≡ n → length d₀ ≡ n * 16 → d ≡ chunks n g
 written-all g d₀ d n k e h l = e ∙ rw h (grown-whole (chunks n g) d₀ (16 * n) (omega arith))
-
-pub written-length : (d b : List ℕ) (at : ℕ) → at + 16 ≤ length d → length b ≡ 16 → length (take at d ++ b ++ drop (at + 16) d) ≡ length d
-written-length d b at h l =
-    length-append (take at d ++ b) (drop (at + 16) d) ∙ rw (length-append (take at d) b, l, length-drop (at + 16) d, length-take-le at d (omega arith)) (omega arith)
 
 module _ (p : Plan) where
   set-free : (s : List ℕ) (k : ℕ) → fixedCoding p k ≡ false → freeCoding p k (left (setUse p) k s) ≡ setCoding p s k

@@ -1,17 +1,16 @@
 -- What is made is always a valid chain (01's term), whatever the bytes.
 use mathlib.Core.Path.{_≡_, refl, sym, ap, _∙_}
 use mathlib.Core.Bool.{Bool, true, false, cond}
-use mathlib.Core.List.{List, _++_}
+use mathlib.Core.List.{List}
 use Prim.Native.Nat.{ℕ, suc, _+_, _-_, _*_, _/_, _%_, _≤_, _<_}
 use native.Mathlib.Nat.{mod-lt}
 use native.Mathlib.Omega.{arith}
 use lib.Dec.{lit<}
 use lib.ListN.{length, getD, take, drop, length-append, length-drop, List·getD-append}
 use lib.Seq.{getD-drop, length-take-le}
-use Rattle.lists.specs.Tabulation.{tab, chunks}
 use Rattle.lists.proofs.TabulationLaws.{length-tab, getD-tab}
 use Rattle.lists.proofs.ChunkLaws.{length-chunks, getD-chunks, getD-second}
-use Rattle.cipher.specs.KeySize.{rounds, chainLength}
+use Rattle.cipher.specs.KeySize.{rounds}
 use Rattle.cipher.specs.Coding.{Permutation, codingAt}
 use Rattle.cipher.specs.Chain.{messageSet, chainSet, roundBytes, middleSet, maskAt, ChainBy}
 use Rattle.cipher.proofs.Permutation.{once-ext}
@@ -19,7 +18,8 @@ use Rattle.cipher.specs.declared.size.KeySize.{KeySize}
 use Rattle.maker.specs.Laws.{IsCoding}
 use Rattle.maker.specs.Draw.{codingFrom}
 use Rattle.maker.specs.Plan.{Plan, TwoWords, source, givenCoding}
-use Rattle.maker.specs.MadeChain.{left, setUse, freeCoding, setCoding, fixedMask, maskUse, maskFrom, middleUse, middlesDraw, middlesFrom, masksFrom, roundFrom, setsDraw, setsFrom, roundUse, roundsFrom, chainMade}
+use Rattle.maker.specs.MadeChain.{left, setUse, freeCoding, setCoding, fixedMask, maskUse, maskFrom, middleUse, middlesDraw, middlesFrom, masksFrom, roundFrom, setsDraw, setsFrom}
+use Rattle.maker.specs.MadeChain.{roundUse, roundsFrom, chainMade}
 use Rattle.maker.proofs.CodingDrawn.{sends, coding-drawn}
 use Rattle.maker.proofs.Places.{given-known, source-word, mask-fixed}
 

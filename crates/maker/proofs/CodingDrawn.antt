@@ -1,22 +1,19 @@
 -- What is drawn as a coding is a permutation, and every permutation comes out of some 15 bytes, of which none is skipped.
 use mathlib.Core.Path.{_≡_, refl, sym, ap, _∙_}
 use mathlib.Core.Logic.{_≢_}
-use mathlib.Core.Bool.{Bool, true, false, cond}
 use mathlib.Core.List.{List, [], _∷_, _++_}
-use Prim.Native.Nat.{ℕ, zero, suc, _+_, _-_, _%_, _≤_, _<_}
+use Prim.Native.Nat.{ℕ, zero, suc, _+_, _%_, _≤_, _<_}
 use native.Mathlib.Nat.{mod-lt, mod-eq-of-lt, zero-lt-suc}
 use native.Mathlib.Decide.{ℕ-discrete, decLt}
-use native.Mathlib.Numerals.{add-one}
 use native.Mathlib.Omega.{arith}
 use borrow.Author.Tests.{lt-leb}
-use lib.Dec.{leb, lit<}
+use lib.Dec.{lit<}
 use lib.ListN.{length, getD, set, drop, length-set}
 use lib.Seq.{getD-set-same, getD-set-other, ext-getD}
-use Rattle.lists.specs.Tabulation.{tab}
 use Rattle.lists.specs.Blocks.{Below}
 use Rattle.lists.proofs.TabulationLaws.{length-tab, getD-tab}
-use Rattle.cipher.specs.Coding.{OneToOne, Permutation, decode}
-use Rattle.cipher.proofs.Permutation.{decode-lt, decode-code, code-decode}
+use Rattle.cipher.specs.Coding.{decode}
+use Rattle.cipher.proofs.Permutation.{decode-lt, code-decode}
 use Rattle.maker.specs.Laws.{IsCoding}
 use Rattle.maker.specs.Draw.{limit, skipped, drawn, chosen, swapped, shuffled, shuffleDraws, unshuffled, codingFrom, codingDraws}
 

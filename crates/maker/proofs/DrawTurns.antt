@@ -1,16 +1,14 @@
 -- One turn of each loop that draws, over plain variables.
-use mathlib.Core.Path.{_≡_, refl, sym, ap, _∙_}
-use mathlib.Core.Bool.{Bool, true, false, cond}
-use mathlib.Core.List.{List, [], _∷_, _++_}
-use Prim.Native.Nat.{ℕ, zero, suc, _+_, _-_, _*_, _%_, _≤_, _<_}
+use mathlib.Core.Path.{_≡_, sym, ap, _∙_}
+use mathlib.Core.List.{List}
+use Prim.Native.Nat.{ℕ, zero, suc, _+_, _-_, _%_, _≤_, _<_}
 use native.Mathlib.Numerals.{add-one}
 use native.Mathlib.Omega.{arith}
 use borrow.Author.Tests.{le-leb, lt-leb}
-use lib.Dec.{leb}
 use lib.ListN.{length, getD, set, drop, length-drop, drop-of-length-le}
 use lib.Seq.{drop-cons, drop-drop, getD-drop}
-use Rattle.maker.specs.Draw.{limit, skipped, drawn, chosen, swapped, shuffled, shuffleDraws, unshuffled, codingFrom, codingDraws}
-use Rattle.maker.proofs.DrawCounts.{Within, within-coding}
+use Rattle.maker.specs.Draw.{limit, skipped, drawn, chosen, swapped, shuffled, shuffleDraws}
+use Rattle.maker.proofs.DrawCounts.{Within}
 
 -- ---- bytes that are skipped
 

@@ -1,13 +1,11 @@
 -- The table of what each byte stands for: its rows, one turn of the loops that fill it, and what a look-up in it says.
 use mathlib.Core.Path.{_≡_, refl, sym, ap, _∙_}
-use mathlib.Core.Bool.{Bool, true, false, cond}
 use mathlib.Core.List.{List, _++_}
-use Prim.Native.Nat.{ℕ, zero, suc, _+_, _-_, _*_, _%_, _≤_, _<_}
+use Prim.Native.Nat.{ℕ, _+_, _-_, _*_, _%_, _≤_, _<_}
 use native.Mathlib.Nat.{mod-lt, mod-eq-of-lt, add-mod-right, add-sub-cancel-left}
 use native.Mathlib.Decide.{decLt}
 use native.Mathlib.Omega.{arith}
-use borrow.Author.Tests.{le-leb, lt-leb, leb-true}
-use lib.Dec.{leb}
+use borrow.Author.Tests.{le-leb, lt-leb}
 use lib.ListN.{length, getD, take, drop, length-append, length-drop, replicate, getD-replicate, List·getD-append}
 use lib.Seq.{ext-getD, getD-drop, getD-take}
 use Rattle.lists.specs.Tabulation.{tab, chunks}
@@ -15,9 +13,6 @@ use Rattle.lists.proofs.TabulationLaws.{length-tab, getD-tab}
 use Rattle.lists.proofs.ChunkLaws.{length-chunks, getD-chunks, getD-second}
 use Rattle.maker.specs.Draw.{limit}
 use Rattle.maker.specs.Numbers.{standsFor, numberTable}
-
-pub limit-le : (k : ℕ) → limit k ≤ 256
-limit-le k = omega arith
 
 -- ---- remainders
 

@@ -12,7 +12,7 @@ use Rattle.cipher.specs.Chain.{Chain, ChainBy, LoneSet}
 use Rattle.cipher.specs.declared.size.KeySize.{KeySize}
 use Rattle.cipher.specs.declared.size.SizeFound.the-variants.{Found, Unknown}
 use Rattle.maker.specs.Draw.{codingFrom, codingDraws}
-use Rattle.maker.specs.Plan.{Plan, sealing, reading}
+use Rattle.maker.specs.Plan.{sealing, reading}
 use Rattle.maker.specs.MadeChain.{chainDraws, chainMade}
 use Rattle.maker.specs.Answers.{makeAnswer, makeReadingAnswer}
 

@@ -1,9 +1,8 @@
 -- `count::sets_draw` meets its contract. The invariant: what the codings before this one draw is behind.
 use mathlib.Core.Path.{_≡_, refl, ap, _∙_}
-use Prim.Native.Nat.{ℕ, _+_, _-_, _*_, _≤_}
+use Prim.Native.Nat.{ℕ, _-_, _≤_}
 use native.Mathlib.Omega.{arith}
 use borrow.Author.Needs.{needs}
-use lib.ListN.{length, drop}
 use Rattle.maker.specs.Plan.{planned}
 use Rattle.maker.specs.MadeChain.{begins, setUse}
 use Rattle.maker.proofs.DrawCounts.{within-begins}

@@ -1,9 +1,9 @@
 -- `draw::coding_draws` meets its contract. The invariant: what is still drawn ends at the same place.
 use mathlib.Core.Path.{_≡_, refl}
-use Prim.Native.Nat.{ℕ, _+_, _-_, _≤_}
+use Prim.Native.Nat.{_+_, _≤_}
 use native.Mathlib.Omega.{arith}
 use borrow.Author.Needs.{needs}
-use lib.ListN.{length, drop}
+use lib.ListN.{drop}
 use Rattle.maker.specs.Draw.{shuffleDraws, codingDraws}
 use Rattle.maker.proofs.DrawCounts.{within-shuffle}
 use Rattle.maker.proofs.DrawTurns.{draws-turn, no-draws, near}

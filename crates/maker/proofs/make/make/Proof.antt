@@ -1,9 +1,8 @@
 -- `make::make` meets its contract.
-use mathlib.Core.Path.{_≡_, sym, ap, _∙_}
-use Prim.Native.Nat.{ℕ, _≤_}
+use mathlib.Core.Path.{sym, ap, _∙_}
+use Prim.Native.Nat.{ℕ}
 use native.Mathlib.Omega.{arith}
 use borrow.Author.Needs.{needs}
-use lib.ListN.{length}
 use Rattle.lists.proofs.TwoParts.{room-length}
 use Rattle.cipher.specs.KeySize.{chainLength}
 use Rattle.cipher.proofs.KeySizeLaws.{rounds-le}
