@@ -11,11 +11,12 @@ use lib.Seq.{length-take-le}
 use Rattle.lists.specs.Tabulation.{tab, chunks}
 use Rattle.lists.proofs.TabulationLaws.{tab-ext}
 use Rattle.lists.proofs.ChunkLaws.{chunks-ext}
-use Rattle.maker.specs.Draw.{codingFrom, codingDraws}
+use Rattle.coding_maker.specs.Draw.{codingFrom, codingDraws}
 use Rattle.maker.specs.Plan.{Plan, TwoWords, fixedCoding, givenCoding, undrawn, source}
-use Rattle.maker.specs.MadeChain.{begins, left, setUse, freeCoding, setCoding, fixedMask, maskUse, maskFrom, middleUse, middlesDraw, middlesFrom, masksDraw, masksFrom, roundDraws}
+use Rattle.coding_maker.specs.Parts.{begins, left}
+use Rattle.maker.specs.MadeChain.{setUse, freeCoding, setCoding, fixedMask, maskUse, maskFrom, middleUse, middlesDraw, middlesFrom, masksDraw, masksFrom, roundDraws}
 use Rattle.maker.specs.MadeChain.{roundFrom, setsDraw, setsFrom, roundUse, roundsDraw, roundsFrom, chainDraws, chainMade}
-use Rattle.maker.proofs.DrawCounts.{Steady, Decided, after, steady-after, decided-first, decided-second, steady-coding, coding-same, steady-begins, decided-part}
+use Rattle.coding_maker.proofs.DrawCounts.{Steady, Decided, after, steady-after, decided-first, decided-second, steady-coding, coding-same, steady-begins, decided-part}
 use Rattle.maker.proofs.Places.{source-le, free-source}
 
 -- ---- lists of parts

@@ -23,13 +23,14 @@ use Rattle.cipher.specs.Coding.{Permutation, codingAt}
 use Rattle.cipher.specs.Chain.{roundBytes, ChainBy, arePermutations, codingRuleHolds}
 use Rattle.cipher.specs.declared.size.KeySize.{KeySize}
 use Rattle.cipher.proofs.ChainTests.{permutations-tested, tested-codings}
-use Rattle.maker.specs.Laws.{IsCoding}
-use Rattle.maker.specs.Draw.{codingFrom, codingDraws}
+use Rattle.coding_maker.specs.Laws.{IsCoding}
+use Rattle.coding_maker.specs.Draw.{codingFrom, codingDraws}
 use Rattle.maker.specs.Plan.{Plan, TwoWords, fixedCoding, source, givenCoding, undrawn}
-use Rattle.maker.specs.MadeChain.{begins, left, setUse, freeCoding, setCoding, fixedMask, maskUse, maskFrom, middleUse, middlesDraw, middlesFrom, masksDraw, masksFrom, roundDraws}
+use Rattle.coding_maker.specs.Parts.{begins, left}
+use Rattle.maker.specs.MadeChain.{setUse, freeCoding, setCoding, fixedMask, maskUse, maskFrom, middleUse, middlesDraw, middlesFrom, masksDraw, masksFrom, roundDraws}
 use Rattle.maker.specs.MadeChain.{roundFrom, setsDraw, setsFrom, roundUse, roundsDraw, roundsFrom, chainDraws, chainMade}
-use Rattle.maker.proofs.DrawCounts.{after}
-use Rattle.maker.proofs.CodingDrawn.{sends, bytesFor, length-bytes, low-bytes, coding-reached, draws-reached}
+use Rattle.coding_maker.proofs.DrawCounts.{after}
+use Rattle.coding_maker.proofs.CodingDrawn.{sends, bytesFor, length-bytes, low-bytes, coding-reached, draws-reached}
 use Rattle.maker.proofs.ChainValid.{codingOf}
 use Rattle.maker.proofs.Places.{source-free, source-fixed, fixed-known, free-source, source-le, mask-fixed, mask-free}
 

@@ -12,12 +12,13 @@ use lib.Seq.{drop-drop, getD-drop, drop-append-le, take-append-le}
 use Rattle.lists.specs.Tabulation.{chunks}
 use Rattle.lists.proofs.ChunkLaws.{chunks-more, length-chunks, chunk-at}
 use Rattle.lists.proofs.PartLaws.{put-more, grown-whole}
-use Rattle.maker.specs.Draw.{codingFrom, codingDraws}
+use Rattle.coding_maker.specs.Draw.{codingFrom, codingDraws}
 use Rattle.maker.specs.Plan.{Plan, TwoWords, fixedCoding, source, givenCoding, undrawn}
-use Rattle.maker.specs.MadeChain.{begins, left, setUse, freeCoding, setCoding, fixedMask, maskUse, maskFrom, middleUse, middlesDraw, middlesFrom, masksDraw, masksFrom, roundDraws}
+use Rattle.coding_maker.specs.Parts.{begins, left}
+use Rattle.maker.specs.MadeChain.{setUse, freeCoding, setCoding, fixedMask, maskUse, maskFrom, middleUse, middlesDraw, middlesFrom, masksDraw, masksFrom, roundDraws}
 use Rattle.maker.specs.MadeChain.{roundFrom, setsDraw, setsFrom, roundsDraw, roundsFrom, chainDraws, chainMade}
-use Rattle.maker.proofs.DrawCounts.{Within, within-coding, within-begins}
-use Rattle.maker.proofs.DrawTurns.{near}
+use Rattle.coding_maker.proofs.DrawCounts.{Within, within-coding, within-begins}
+use Rattle.coding_maker.proofs.DrawTurns.{near}
 use Rattle.maker.proofs.Places.{source-free, source-fixed, source-lt, free-source, mask-fixed, mask-free}
 use Rattle.maker.proofs.ChainValid.{codingOf, length-setCoding, set-same}
 

@@ -15,12 +15,13 @@ use Rattle.cipher.specs.Coding.{Permutation, codingAt}
 use Rattle.cipher.specs.Chain.{messageSet, chainSet, roundBytes, middleSet, maskAt, ChainBy}
 use Rattle.cipher.proofs.Permutation.{once-ext}
 use Rattle.cipher.specs.declared.size.KeySize.{KeySize}
-use Rattle.maker.specs.Laws.{IsCoding}
-use Rattle.maker.specs.Draw.{codingFrom}
+use Rattle.coding_maker.specs.Laws.{IsCoding}
+use Rattle.coding_maker.specs.Draw.{codingFrom}
 use Rattle.maker.specs.Plan.{Plan, TwoWords, source, givenCoding}
-use Rattle.maker.specs.MadeChain.{left, setUse, freeCoding, setCoding, fixedMask, maskUse, maskFrom, middleUse, middlesDraw, middlesFrom, masksFrom, roundFrom, setsDraw, setsFrom}
+use Rattle.coding_maker.specs.Parts.{left}
+use Rattle.maker.specs.MadeChain.{setUse, freeCoding, setCoding, fixedMask, maskUse, maskFrom, middleUse, middlesDraw, middlesFrom, masksFrom, roundFrom, setsDraw, setsFrom}
 use Rattle.maker.specs.MadeChain.{roundUse, roundsFrom, chainMade}
-use Rattle.maker.proofs.CodingDrawn.{sends, coding-drawn}
+use Rattle.coding_maker.proofs.CodingDrawn.{sends, coding-drawn}
 use Rattle.maker.proofs.Places.{given-known, source-word, mask-fixed}
 
 -- ---- a round

@@ -1,12 +1,7 @@
-pub mod CodingDrawn
-pub mod DrawCounts
-pub mod NumberLaws
 pub mod Places
 pub mod ChainValid
 pub mod ChainDecided
 pub mod ChainReached
-pub mod DrawTurns
 pub mod ChainTurns
 pub mod MakeAnswers
 pub mod MakerTheorem
-pub mod Example

@@ -14,28 +14,20 @@ use Rattle.cipher.specs.Chain.{Chain, LoneSet}
 use Rattle.cipher.specs.declared.size.KeySize.{KeySize}
 use Rattle.cipher.proofs.KeySizeLaws.{size-of-key}
 use Rattle.cipher.proofs.ChainTests.{permutations-tested, permutations-set}
-use Rattle.maker.specs.Draw.{codingFrom, codingDraws}
 use Rattle.maker.specs.Plan.{Plan, sealing, reading, givenCoding}
-use Rattle.maker.specs.MadeChain.{left, setUse, freeCoding, setCoding, chainDraws, chainMade}
+use Rattle.coding_maker.specs.Parts.{left}
+use Rattle.maker.specs.MadeChain.{setUse, freeCoding, setCoding, chainDraws, chainMade}
 use Rattle.maker.specs.Answers.{drawTests, madeInto, makeAnswer, makeReadingAnswer}
-use Rattle.maker.specs.Laws.{ComesOut, IsCoding, Makes, ReadingFrom, MakerLaws}
-use Rattle.maker.proofs.CodingDrawn.{coding-drawn, bytesFor, length-bytes, low-bytes, coding-reached, draws-reached, sends}
+use Rattle.coding_maker.specs.Laws.{ComesOut, IsCoding}
+use Rattle.coding_maker.proofs.CodingTheorem.{coding-laws}
+use Rattle.maker.specs.Laws.{Makes, ReadingFrom, MakerLaws}
+use Rattle.coding_maker.proofs.CodingDrawn.{sends}
 use Rattle.maker.proofs.Places.{given-known, coding-early, source-free}
 use Rattle.maker.proofs.ChainValid.{codingOf, Sound, chain-valid, chain-length, front}
 use Rattle.maker.proofs.ChainDecided.{chain-same, draws-same, draws-more, fewer-lack, drawn-suffice}
 use Rattle.maker.proofs.ChainReached.{coding-at, coding-of, Planned, chainBytes, chain-draws, chain-reached, chain-bytes}
 use Rattle.maker.proofs.ChainTurns.{free-given}
 use Rattle.maker.proofs.MakeAnswers.{made-room, made-ran-out, made-done, make-key, make-sized, read-key, read-set-length, read-set-coding, read-sized}
-
--- ---- codings
-
-every-coding : (x : List ℕ) → IsCoding x → ComesOut codingDraws codingFrom x
-every-coding x h = record {
-  from = bytesFor x;
-  bytes = λ k. let b = low-bytes x h k in omega arith;
-  all = λ more. draws-reached x h more ∙ sym (length-bytes x h);
-  made = coding-reached x h;
-}
 
 -- ---- an operation that goes by a plan
 
@@ -155,8 +147,7 @@ module _ (set : List ℕ) (v : LoneSet set) (r : ℕ) (s : List ℕ) where
 
 pub maker-laws : MakerLaws
 maker-laws = record {
-  coding = coding-drawn;
-  every-coding = every-coding;
+  codings = coding-laws;
   chains = λ z. makes sealing sound-sealing z (Chain z) (planned-sealing z) (chain-valid sealing sound-sealing z) (makeAnswer (keyLength z))
       (λ random out. make-sized (keyLength z) random out z (size-of-key z));
   reading-chains = λ z set v. makes (reading set) (sound-reading set v) z (ReadingFrom set z) (planned-reading set v z)

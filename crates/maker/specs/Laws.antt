@@ -3,30 +3,17 @@
 use mathlib.Core.Path.{_≡_}
 use mathlib.Core.List.{List, _++_}
 use Prim.Native.Nat.{ℕ, _≤_, _<_}
-use lib.ListN.{length, getD, take, drop}
-use Rattle.lists.specs.Blocks.{Bytes}
+use lib.ListN.{length, take, drop}
 use Rattle.cipher.specs.KeySize.{rounds, keyLength, chainLength, sizeOfKey}
-use Rattle.cipher.specs.Lengths.{codingLength, setLength}
-use Rattle.cipher.specs.Coding.{Permutation, Permutations, setOf}
+use Rattle.cipher.specs.Lengths.{setLength}
+use Rattle.cipher.specs.Coding.{Permutations, setOf}
 use Rattle.cipher.specs.Chain.{Chain, ChainBy, LoneSet}
 use Rattle.cipher.specs.declared.size.KeySize.{KeySize}
 use Rattle.cipher.specs.declared.size.SizeFound.the-variants.{Found, Unknown}
-use Rattle.maker.specs.Draw.{codingFrom, codingDraws}
+use Rattle.coding_maker.specs.Laws.{ComesOut, CodingLaws}
 use Rattle.maker.specs.Plan.{sealing, reading}
 use Rattle.maker.specs.MadeChain.{chainDraws, chainMade}
 use Rattle.maker.specs.Answers.{makeAnswer, makeReadingAnswer}
-
--- x comes out of some bytes, all of which are drawn, whatever stands behind them: `draws` counts, and `make` makes of bytes
-pub record ComesOut (draws : List ℕ → ℕ) (make : List ℕ → List ℕ) (x : List ℕ) : Type 0 where
-  pub from : List ℕ
-  pub bytes : Bytes from
-  pub all : (more : List ℕ) → draws (from ++ more) ≡ length from
-  pub made : (more : List ℕ) → make (from ++ more) ≡ x
-
--- a permutation of 0 to 15, in 16 bytes
-pub record IsCoding (x : List ℕ) : Type 0 where
-  pub size : length x ≡ codingLength
-  pub permutes : Permutation (λ v. getD x v 0)
 
 -- how an operation answers, for random bytes and a buffer, that draws what is Wanted, a chain of n bytes
 pub record Makes (draws : List ℕ → ℕ) (make : List ℕ → List ℕ) (Wanted : List ℕ → Type 0) (n : ℕ) (answer : List ℕ → List ℕ → (ℕ × ℕ) × List ℕ) : Type 0 where
@@ -52,8 +39,7 @@ ReadingFrom set z ch = ChainBy 3 0 z ch × (take setLength (drop setLength ch) �
 
 pub record MakerLaws : Type 0 where
   -- a coding is a permutation, and every permutation comes out
-  pub coding : (random : List ℕ) → IsCoding (codingFrom random)
-  pub every-coding : (x : List ℕ) → IsCoding x → ComesOut codingDraws codingFrom x
+  pub codings : CodingLaws
   -- chains and reading chains
   pub chains : (z : KeySize) → Makes (chainDraws sealing (rounds z)) (chainMade sealing (rounds z)) (Chain z) (chainLength z) (makeAnswer (keyLength z))
   pub reading-chains : (z : KeySize) (set : List ℕ) → LoneSet set

@@ -1,7 +1,4 @@
-pub mod Draw
-pub mod Numbers
 pub mod Plan
 pub mod MadeChain
 pub mod Answers
 pub mod Laws
-pub mod Examples

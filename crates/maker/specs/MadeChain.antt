@@ -3,24 +3,14 @@
 -- that are fixed or given, and masks at j = 0, draw nothing.
 use mathlib.Core.Bool.{Bool, cond}
 use mathlib.Core.List.{List, _++_}
-use Prim.Native.Nat.{ℕ, zero, suc, _+_, _-_, _*_, _%_}
+use Prim.Native.Nat.{ℕ, _+_, _-_, _*_, _%_}
 use lib.Dec.{eqb}
 use lib.ListN.{getD, take, drop}
 use Rattle.lists.specs.Tabulation.{tab, chunks}
 use Rattle.cipher.specs.Lengths.{codingLength}
-use Rattle.maker.specs.Draw.{codingFrom, codingDraws}
+use Rattle.coding_maker.specs.Draw.{codingFrom, codingDraws}
+use Rattle.coding_maker.specs.Parts.{begins, left}
 use Rattle.maker.specs.Plan.{Plan, source, givenCoding, undrawn}
-
--- ---- parts drawn one after another
-
--- how many bytes the parts before part n draw, where part k draws u k of what is left
-unfoldable pub begins : (ℕ → List ℕ → ℕ) → ℕ → List ℕ → ℕ
-begins u zero s = zero
-begins u (suc n) s = begins u n s + u n (drop (begins u n s) s)
-
--- the bytes that are left for part n
-abbrev pub left : (ℕ → List ℕ → ℕ) → ℕ → List ℕ → List ℕ
-left u n s = drop (begins u n s) s
 
 -- ---- the sets
 

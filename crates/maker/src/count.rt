@@ -4,14 +4,15 @@
 ghost use mathlib.Core.Path.{_≡_};
 ghost use Prim.Native.Nat.{_+_, _≤_};
 ghost use lib.ListN.{length, drop};
-ghost use Rattle.maker.specs.Numbers.{numberTable};
+ghost use Rattle.coding_maker.specs.Numbers.{numberTable};
+ghost use Rattle.coding_maker.specs.Parts.{begins};
 ghost use Rattle.maker.specs.Plan.{planned};
 ghost use Rattle.maker.specs.MadeChain as M;
-use crate::draw::coding_draws;
 use crate::plan::Rule;
 use crate::plan::fixed_coding;
 use crate::plan::given_coding;
 use cipher::lengths;
+use coding_maker::draw::coding_draws;
 
 // Behind the draws of coding k of U and the sets.
 fn set_use(table: &[u8], random: &[u8], start: usize, rule: Rule, set: &[u8], k: usize) -> usize
@@ -30,7 +31,7 @@ fn set_use(table: &[u8], random: &[u8], start: usize, rule: Rule, set: &[u8], k:
 // Behind those of the first n codings of U and the sets.
 fn sets_draw(table: &[u8], random: &[u8], rule: Rule, set: &[u8], n: usize) -> usize
     requires { ⌜ (now table ≡ numberTable) × (n ≤ 1088) ⌝ }
-    ensures { λ r. ⌜ r ≡ M.begins (M.setUse (planned rule (now (set .entry)))) n (now (random .entry)) ⌝ }
+    ensures { λ r. ⌜ r ≡ begins (M.setUse (planned rule (now (set .entry)))) n (now (random .entry)) ⌝ }
 {
     let mut at: usize = 0;
     for k in 0..n {

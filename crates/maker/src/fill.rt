@@ -7,16 +7,17 @@ ghost use Prim.Native.Nat.{_+_, _*_, _≤_};
 ghost use lib.ListN.{length, getD, take, drop};
 ghost use Rattle.lists.specs.Tabulation.{chunks};
 ghost use Rattle.cipher.specs.Lengths.{codingLength, middlesLength, roundCodingsLength};
-ghost use Rattle.maker.specs.Numbers.{numberTable};
+ghost use Rattle.coding_maker.specs.Numbers.{numberTable};
+ghost use Rattle.coding_maker.specs.Parts.{begins};
 ghost use Rattle.maker.specs.Plan.{TwoWords, planned, source, fixedCoding};
 ghost use Rattle.maker.specs.MadeChain as M;
-use crate::draw::draw_coding;
 use crate::plan::Rule;
 use crate::plan::fixed_coding;
 use crate::plan::given_coding;
 use cipher::block::block_at;
 use cipher::block::put_block;
 use cipher::lengths;
+use coding_maker::draw::draw_coding;
 
 // A mask that was drawn, and the place of the first byte that is left.
 struct MaskDrawn {
@@ -80,7 +81,7 @@ pub fn draw_sets(
     out: &mut [u8],
 ) -> usize
     requires { ⌜ (now table ≡ numberTable) × TwoWords (rule .from) (rule .to) × (n ≤ 1088) × (length (now out) ≡ n * codingLength) ⌝ }
-    ensures { λ r. ⌜ (r ≡ M.begins (M.setUse (planned rule (now (set .entry)))) n (now (random .entry))) × (now (out .exit) ≡ chunks n (M.setCoding (planned rule (now (set .entry))) (now (random .entry)))) ⌝ }
+    ensures { λ r. ⌜ (r ≡ begins (M.setUse (planned rule (now (set .entry)))) n (now (random .entry))) × (now (out .exit) ≡ chunks n (M.setCoding (planned rule (now (set .entry))) (now (random .entry)))) ⌝ }
 {
     let mut at: usize = 0;
     for k in 0..n {

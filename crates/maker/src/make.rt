@@ -6,14 +6,13 @@ ghost use mathlib.Core.Path.{_≡_};
 ghost use lib.ListN.{length};
 ghost use Rattle.cipher.specs.KeySize as S;
 ghost use Rattle.cipher.specs.Refusal.{writtenOf};
-ghost use Rattle.maker.specs.Numbers.{numberTable};
+ghost use Rattle.coding_maker.specs.Numbers.{numberTable};
 ghost use Rattle.maker.specs.Plan.{TwoWords, planned};
 ghost use Rattle.maker.specs.MadeChain.{chainDraws, chainMade};
 ghost use Rattle.maker.specs.Answers.{drawTests, madeInto, makeAnswer, makeReadingAnswer};
 use crate::count::chain_draws;
 use crate::fill::draw_rounds;
 use crate::fill::draw_sets;
-use crate::numbers::number_table;
 use crate::plan::Rule;
 use cipher::chain::check_set;
 use cipher::lengths;
@@ -22,6 +21,7 @@ use cipher::refusal::Refusal;
 use cipher::refusal::Written;
 use cipher::size::KeySize;
 use cipher::size::SizeFound;
+use coding_maker::numbers::number_table;
 
 // A chain drawn into a buffer of its length; how many bytes were drawn.
 fn draw_chain(

@@ -5,7 +5,7 @@ use native.Mathlib.Omega.{arith}
 use borrow.Author.Needs.{needs}
 use Rattle.maker.specs.Plan.{planned}
 use Rattle.maker.specs.MadeChain.{setUse}
-use Rattle.maker.proofs.DrawCounts.{within-begins}
+use Rattle.coding_maker.proofs.DrawCounts.{within-begins}
 use Rattle.maker.proofs.ChainTurns.{within-set, chain-drawn}
 use Rattle.maker.proofs.count.chain_draws.Statement.{statement}
 use Rattle.maker.proofs.count.chain_draws.Tie as tie

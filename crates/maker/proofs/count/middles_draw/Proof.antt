@@ -4,8 +4,9 @@ use Prim.Native.Nat.{ℕ, _+_, _-_, _≤_}
 use native.Mathlib.Omega.{arith}
 use borrow.Author.Needs.{needs}
 use lib.ListN.{drop}
-use Rattle.maker.specs.MadeChain.{begins, middleUse, middlesDraw}
-use Rattle.maker.proofs.DrawCounts.{within-coding}
+use Rattle.coding_maker.specs.Parts.{begins}
+use Rattle.maker.specs.MadeChain.{middleUse, middlesDraw}
+use Rattle.coding_maker.proofs.DrawCounts.{within-coding}
 use Rattle.maker.proofs.ChainTurns.{begins-turn, begins-none, begins-near}
 use Rattle.maker.proofs.count.middles_draw.Statement.{statement}
 use Rattle.maker.proofs.count.middles_draw.Tie as tie

@@ -3,7 +3,7 @@ use native.Mathlib.Omega.{arith}
 use borrow.Author.Needs.{needs}
 use lib.ListN.{drop}
 use Rattle.maker.specs.MadeChain.{middlesDraw}
-use Rattle.maker.proofs.DrawTurns.{near}
+use Rattle.coding_maker.proofs.DrawTurns.{near}
 use Rattle.maker.proofs.ChainTurns.{round-draws-is, within-middles}
 use Rattle.maker.proofs.count.round_draws.Statement.{statement}
 use Rattle.maker.proofs.count.round_draws.Tie as tie

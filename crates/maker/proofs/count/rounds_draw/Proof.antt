@@ -4,7 +4,8 @@ use Prim.Native.Nat.{ℕ, _+_, _-_, _≤_}
 use native.Mathlib.Omega.{arith}
 use borrow.Author.Needs.{needs}
 use lib.ListN.{drop}
-use Rattle.maker.specs.MadeChain.{begins, roundUse, roundsDraw}
+use Rattle.coding_maker.specs.Parts.{begins}
+use Rattle.maker.specs.MadeChain.{roundUse, roundsDraw}
 use Rattle.maker.proofs.ChainTurns.{begins-turn, begins-none, begins-near, within-round}
 use Rattle.maker.proofs.count.rounds_draw.Statement.{statement}
 use Rattle.maker.proofs.count.rounds_draw.Tie as tie

@@ -4,8 +4,9 @@ use Prim.Native.Nat.{ℕ, _-_, _≤_}
 use native.Mathlib.Omega.{arith}
 use borrow.Author.Needs.{needs}
 use Rattle.maker.specs.Plan.{planned}
-use Rattle.maker.specs.MadeChain.{begins, setUse}
-use Rattle.maker.proofs.DrawCounts.{within-begins}
+use Rattle.coding_maker.specs.Parts.{begins}
+use Rattle.maker.specs.MadeChain.{setUse}
+use Rattle.coding_maker.proofs.DrawCounts.{within-begins}
 use Rattle.maker.proofs.ChainTurns.{begins-more, within-set}
 use Rattle.maker.proofs.count.sets_draw.Statement.{statement}
 use Rattle.maker.proofs.count.sets_draw.Tie as tie

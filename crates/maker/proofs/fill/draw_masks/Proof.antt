@@ -7,7 +7,8 @@ use borrow.Author.Needs.{needs}
 use lib.ListN.{length, drop, length-set}
 use Rattle.lists.specs.Tabulation.{tab}
 use Rattle.lists.proofs.PartLaws.{tab-turn, tab-full}
-use Rattle.maker.specs.MadeChain.{begins, left, maskUse, maskFrom, masksDraw, masksFrom}
+use Rattle.coding_maker.specs.Parts.{begins, left}
+use Rattle.maker.specs.MadeChain.{maskUse, maskFrom, masksDraw, masksFrom}
 use Rattle.maker.proofs.ChainTurns.{left-at, begins-turn, begins-none, begins-near, within-mask}
 use Rattle.maker.proofs.fill.draw_masks.Statement.{statement}
 use Rattle.maker.proofs.fill.draw_masks.Tie as tie

@@ -8,10 +8,11 @@ use borrow.Rule.Slice.PartMut.{same-len-mid}
 use lib.ListN.{length, drop}
 use Rattle.lists.specs.Tabulation.{chunks}
 use Rattle.lists.proofs.PartLaws.{chunks-turn, chunks-full, length-part}
-use Rattle.maker.specs.Draw.{codingFrom}
-use Rattle.maker.specs.MadeChain.{begins, left, middleUse, middlesDraw, middlesFrom}
-use Rattle.maker.proofs.CodingDrawn.{coding-drawn}
-use Rattle.maker.proofs.DrawCounts.{within-coding}
+use Rattle.coding_maker.specs.Draw.{codingFrom}
+use Rattle.coding_maker.specs.Parts.{begins, left}
+use Rattle.maker.specs.MadeChain.{middleUse, middlesDraw, middlesFrom}
+use Rattle.coding_maker.proofs.CodingDrawn.{coding-drawn}
+use Rattle.coding_maker.proofs.DrawCounts.{within-coding}
 use Rattle.maker.proofs.ChainTurns.{left-at, begins-turn, begins-none, begins-near}
 use Rattle.maker.proofs.fill.draw_middles.Statement.{statement}
 use Rattle.maker.proofs.fill.draw_middles.Tie as tie

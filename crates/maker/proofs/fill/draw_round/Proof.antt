@@ -7,7 +7,7 @@ use lib.Seq.{length-take-le}
 use Rattle.lists.proofs.TwoParts.{second-length, two-joined, two-length}
 use Rattle.maker.specs.MadeChain.{middlesDraw}
 use Rattle.maker.proofs.ChainValid.{length-middles, length-masks}
-use Rattle.maker.proofs.DrawTurns.{near}
+use Rattle.coding_maker.proofs.DrawTurns.{near}
 use Rattle.maker.proofs.ChainTurns.{within-middles, round-draws-in, round-from-in}
 use Rattle.maker.proofs.fill.draw_round.Statement.{statement}
 use Rattle.maker.proofs.fill.draw_round.Tie as tie

@@ -8,7 +8,8 @@ use borrow.Rule.Slice.PartMut.{same-len-mid}
 use lib.ListN.{length, drop}
 use Rattle.lists.specs.Tabulation.{chunks}
 use Rattle.lists.proofs.PartLaws.{chunks-turn, chunks-full, length-part}
-use Rattle.maker.specs.MadeChain.{begins, left, roundUse, roundFrom, roundsDraw, roundsFrom}
+use Rattle.coding_maker.specs.Parts.{begins, left}
+use Rattle.maker.specs.MadeChain.{roundUse, roundFrom, roundsDraw, roundsFrom}
 use Rattle.maker.proofs.ChainValid.{length-round}
 use Rattle.maker.proofs.ChainTurns.{left-at, begins-turn, begins-none, begins-near, within-round}
 use Rattle.maker.proofs.fill.draw_rounds.Statement.{statement}

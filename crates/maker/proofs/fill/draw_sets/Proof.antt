@@ -7,8 +7,9 @@ use borrow.Author.Needs.{needs}
 use lib.ListN.{length, drop}
 use Rattle.lists.specs.Tabulation.{chunks}
 use Rattle.maker.specs.Plan.{planned}
-use Rattle.maker.specs.MadeChain.{begins, setUse, setCoding}
-use Rattle.maker.proofs.DrawCounts.{within-begins}
+use Rattle.coding_maker.specs.Parts.{begins}
+use Rattle.maker.specs.MadeChain.{setUse, setCoding}
+use Rattle.coding_maker.proofs.DrawCounts.{within-begins}
 use Rattle.maker.proofs.ChainValid.{length-setCoding}
 use Rattle.maker.proofs.ChainTurns.{begins-more, within-set, written-more, written-none, written-all, set-coding-is}
 use Rattle.maker.proofs.fill.draw_sets.Statement.{statement}

@@ -9,7 +9,7 @@ use Rattle.cipher.specs.KeySize.{rounds}
 use Rattle.cipher.proofs.KeySizeLaws.{rounds-le}
 use Rattle.maker.specs.Plan.{planned}
 use Rattle.maker.specs.MadeChain.{setUse}
-use Rattle.maker.proofs.DrawCounts.{within-begins}
+use Rattle.coding_maker.proofs.DrawCounts.{within-begins}
 use Rattle.maker.proofs.ChainValid.{length-rounds}
 use Rattle.maker.proofs.ChainTurns.{within-set, sets-size, chain-drawn, chain-made}
 use Rattle.maker.proofs.make.draw_chain.Statement.{statement}

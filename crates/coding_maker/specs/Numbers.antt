@@ -4,7 +4,7 @@ use mathlib.Core.List.{List}
 use Prim.Native.Nat.{ℕ, _+_, _%_}
 use lib.Dec.{leb}
 use Rattle.lists.specs.Tabulation.{tab, chunks}
-use Rattle.maker.specs.Draw.{limit}
+use Rattle.coding_maker.specs.Draw.{limit}
 
 -- byte b: its remainder, or 16 where it is skipped
 unfoldable pub standsFor : ℕ → ℕ → ℕ

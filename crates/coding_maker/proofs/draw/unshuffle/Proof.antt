@@ -7,9 +7,9 @@ use borrow.Author.Needs.{needs}
 use lib.ListN.{length, drop, length-set}
 use Rattle.lists.specs.Tabulation.{tab}
 use Rattle.lists.proofs.PartLaws.{tab-turn, tab-full}
-use Rattle.maker.specs.Draw.{unshuffled}
-use Rattle.maker.proofs.draw.unshuffle.Statement.{statement}
-use Rattle.maker.proofs.draw.unshuffle.Tie as tie
+use Rattle.coding_maker.specs.Draw.{unshuffled}
+use Rattle.coding_maker.proofs.draw.unshuffle.Statement.{statement}
+use Rattle.coding_maker.proofs.draw.unshuffle.Tie as tie
 
 abbrev Inv-loop : tie.InvT-loop
 Inv-loop out₀ v₀ out v = (v ≤ 16) × (length out ≡ length out₀) × (out ≡ tab v (λ i. i) ++ drop v out₀)

@@ -1,8 +1,8 @@
 -- The codings of specs/Examples come out as they are said to, by computation.
 use mathlib.Core.Path.{refl}
 use Rattle.lists.specs.Tabulation.{tab}
-use Rattle.maker.specs.Draw.{skipped, swapped, shuffled, shuffleDraws, unshuffled, codingFrom, codingDraws}
-use Rattle.maker.specs.Examples.{MarkedCodings}
+use Rattle.coding_maker.specs.Draw.{skipped, swapped, shuffled, shuffleDraws, unshuffled, codingFrom, codingDraws}
+use Rattle.coding_maker.specs.Examples.{MarkedCodings}
 
 pub marked-codings : MarkedCodings
 unfolding tab skipped swapped shuffled shuffleDraws unshuffled codingFrom codingDraws

@@ -5,8 +5,8 @@ ghost use mathlib.Core.List.{_++_};
 ghost use Prim.Native.Nat.{ℕ, _+_, _%_, _<_};
 ghost use lib.ListN.{length, getD, drop};
 ghost use Rattle.lists.specs.Tabulation.{tab};
-ghost use Rattle.maker.specs.Draw.{limit};
-ghost use Rattle.maker.specs.Numbers.{numberTable};
+ghost use Rattle.coding_maker.specs.Draw.{limit};
+ghost use Rattle.coding_maker.specs.Numbers.{numberTable};
 use cipher::lengths;
 
 // In place of a number, where a byte is skipped.

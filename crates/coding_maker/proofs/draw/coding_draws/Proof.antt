@@ -4,11 +4,11 @@ use Prim.Native.Nat.{_+_, _≤_}
 use native.Mathlib.Omega.{arith}
 use borrow.Author.Needs.{needs}
 use lib.ListN.{drop}
-use Rattle.maker.specs.Draw.{shuffleDraws, codingDraws}
-use Rattle.maker.proofs.DrawCounts.{within-shuffle}
-use Rattle.maker.proofs.DrawTurns.{draws-turn, no-draws, near}
-use Rattle.maker.proofs.draw.coding_draws.Statement.{statement}
-use Rattle.maker.proofs.draw.coding_draws.Tie as tie
+use Rattle.coding_maker.specs.Draw.{shuffleDraws, codingDraws}
+use Rattle.coding_maker.proofs.DrawCounts.{within-shuffle}
+use Rattle.coding_maker.proofs.DrawTurns.{draws-turn, no-draws, near}
+use Rattle.coding_maker.proofs.draw.coding_draws.Statement.{statement}
+use Rattle.coding_maker.proofs.draw.coding_draws.Tie as tie
 
 abbrev Inv-loop : tie.InvT-loop
 Inv-loop table random start at₀ k₀ at k = (k ≤ 15) × (at + shuffleDraws k (drop at random) ≡ start + shuffleDraws 15 (drop start random))
@@ -33,7 +33,7 @@ loop-again c =
     let l = c .before .before in
     let e = l .before .before .before in (
       omega (arith, l .loop .inv .0),
-      draws-turn (e .args .random .now) (l .loop .k) (l .loop .at) (c .draw-number .result .at) (c .before .loop-test .taken)
+      draws-turn (e .args .random .now) (l .loop .k) (l .loop .at) (c .draw-number .result .at) (omega (arith, c .before .loop-test .taken))
           (c .draw-number .ensures .1) _ (l .loop .inv .1),
     )
 

@@ -11,8 +11,8 @@ use lib.Seq.{ext-getD, getD-drop, getD-take}
 use Rattle.lists.specs.Tabulation.{tab, chunks}
 use Rattle.lists.proofs.TabulationLaws.{length-tab, getD-tab}
 use Rattle.lists.proofs.ChunkLaws.{length-chunks, getD-chunks, getD-second}
-use Rattle.maker.specs.Draw.{limit}
-use Rattle.maker.specs.Numbers.{standsFor, numberTable}
+use Rattle.coding_maker.specs.Draw.{limit}
+use Rattle.coding_maker.specs.Numbers.{standsFor, numberTable}
 
 -- ---- remainders
 

@@ -5,12 +5,12 @@ use Prim.Native.Nat.{ℕ, _+_, _≤_, _<_}
 use native.Mathlib.Omega.{arith}
 use borrow.Author.Needs.{needs}
 use lib.ListN.{length, drop, length-set}
-use Rattle.maker.specs.Draw.{shuffled, shuffleDraws, unshuffled, codingFrom, codingDraws}
-use Rattle.maker.proofs.CodingDrawn.{chosen-lt, unshuffled-coding}
-use Rattle.maker.proofs.DrawCounts.{within-shuffle}
-use Rattle.maker.proofs.DrawTurns.{draws-turn, shuffle-turn, no-draws, no-shuffle, near}
-use Rattle.maker.proofs.draw.draw_coding.Statement.{statement}
-use Rattle.maker.proofs.draw.draw_coding.Tie as tie
+use Rattle.coding_maker.specs.Draw.{shuffled, shuffleDraws, unshuffled, codingFrom, codingDraws}
+use Rattle.coding_maker.proofs.CodingDrawn.{chosen-lt, unshuffled-coding}
+use Rattle.coding_maker.proofs.DrawCounts.{within-shuffle}
+use Rattle.coding_maker.proofs.DrawTurns.{draws-turn, shuffle-turn, no-draws, no-shuffle, near}
+use Rattle.coding_maker.proofs.draw.draw_coding.Statement.{statement}
+use Rattle.coding_maker.proofs.draw.draw_coding.Tie as tie
 
 abbrev Inv-loop : tie.InvT-loop
 Inv-loop table random start out₀ at₀ place₀ out at place =

@@ -7,8 +7,8 @@ use native.Mathlib.Omega.{arith}
 use borrow.Author.Tests.{le-leb, lt-leb}
 use lib.ListN.{length, getD, set, drop, length-drop, drop-of-length-le}
 use lib.Seq.{drop-cons, drop-drop, getD-drop}
-use Rattle.maker.specs.Draw.{limit, skipped, drawn, chosen, swapped, shuffled, shuffleDraws}
-use Rattle.maker.proofs.DrawCounts.{Within}
+use Rattle.coding_maker.specs.Draw.{limit, skipped, drawn, chosen, swapped, shuffled, shuffleDraws}
+use Rattle.coding_maker.proofs.DrawCounts.{Within}
 
 -- ---- bytes that are skipped
 

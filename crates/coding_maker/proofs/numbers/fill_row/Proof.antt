@@ -8,9 +8,9 @@ use borrow.Author.Needs.{needs}
 use lib.ListN.{length, drop, length-set}
 use Rattle.lists.specs.Tabulation.{tab}
 use Rattle.lists.proofs.PartLaws.{tab-turn}
-use Rattle.maker.proofs.NumberLaws.{filled-at}
-use Rattle.maker.proofs.numbers.fill_row.Statement.{statement}
-use Rattle.maker.proofs.numbers.fill_row.Tie as tie
+use Rattle.coding_maker.proofs.NumberLaws.{filled-at}
+use Rattle.coding_maker.proofs.numbers.fill_row.Statement.{statement}
+use Rattle.coding_maker.proofs.numbers.fill_row.Tie as tie
 
 abbrev Inv-loop : tie.InvT-loop
 Inv-loop k row₀ limit b₀ row b = (b ≤ limit) × (length row ≡ length row₀) × (row ≡ tab b (λ i. i % (k + 1)) ++ drop b row₀)

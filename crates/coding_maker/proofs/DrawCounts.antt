@@ -10,8 +10,8 @@ use native.Mathlib.Omega.{arith}
 use lib.Dec.{leb}
 use lib.ListN.{length, getD, drop, length-drop, List·getD-append}
 use lib.Seq.{drop-append-le}
-use Rattle.maker.specs.Draw.{limit, skipped, drawn, chosen, swapped, shuffled, shuffleDraws, unshuffled, codingFrom, codingDraws}
-use Rattle.maker.specs.MadeChain.{begins, left}
+use Rattle.coding_maker.specs.Draw.{limit, skipped, drawn, chosen, swapped, shuffled, shuffleDraws, unshuffled, codingFrom, codingDraws}
+use Rattle.coding_maker.specs.Parts.{begins, left}
 
 -- what u draws is decided by the bytes it draws
 pub record Steady (u : List ℕ → ℕ) : Type 0 where

@@ -14,8 +14,8 @@ use Rattle.lists.specs.Blocks.{Below}
 use Rattle.lists.proofs.TabulationLaws.{length-tab, getD-tab}
 use Rattle.cipher.specs.Coding.{decode}
 use Rattle.cipher.proofs.Permutation.{decode-lt, code-decode}
-use Rattle.maker.specs.Laws.{IsCoding}
-use Rattle.maker.specs.Draw.{limit, skipped, drawn, chosen, swapped, shuffled, shuffleDraws, unshuffled, codingFrom, codingDraws}
+use Rattle.coding_maker.specs.Laws.{IsCoding}
+use Rattle.coding_maker.specs.Draw.{limit, skipped, drawn, chosen, swapped, shuffled, shuffleDraws, unshuffled, codingFrom, codingDraws}
 
 -- c sends v to its byte v
 abbrev pub sends : List ℕ → ℕ → ℕ

@@ -6,13 +6,13 @@ use native.Mathlib.Nat.{zero-mod}
 use native.Mathlib.Omega.{arith}
 use borrow.Author.Needs.{needs}
 use lib.ListN.{length, getD, drop, List·getD-eq-default}
-use Rattle.maker.specs.Draw.{skipped, drawn}
-use Rattle.maker.specs.Numbers.{standsFor}
-use Rattle.maker.proofs.DrawCounts.{within-drawn}
-use Rattle.maker.proofs.DrawTurns.{taken-here, taken-later, taken-end, chosen-is, near}
-use Rattle.maker.proofs.NumberLaws.{stands-low, stands-high, number-at, length-table}
-use Rattle.maker.proofs.draw.draw_number.Statement.{statement}
-use Rattle.maker.proofs.draw.draw_number.Tie as tie
+use Rattle.coding_maker.specs.Draw.{skipped, drawn}
+use Rattle.coding_maker.specs.Numbers.{standsFor}
+use Rattle.coding_maker.proofs.DrawCounts.{within-drawn}
+use Rattle.coding_maker.proofs.DrawTurns.{taken-here, taken-later, taken-end, chosen-is, near}
+use Rattle.coding_maker.proofs.NumberLaws.{stands-low, stands-high, number-at, length-table}
+use Rattle.coding_maker.proofs.draw.draw_number.Statement.{statement}
+use Rattle.coding_maker.proofs.draw.draw_number.Tie as tie
 
 abbrev Inv-loop : tie.InvT-loop
 Inv-loop table random start k at₀ at = at + skipped k (drop at random) ≡ start + skipped k (drop start random)

@@ -8,10 +8,10 @@ use borrow.Rule.Slice.PartMut.{same-len-mid}
 use lib.ListN.{length, take, drop, replicate, length-replicate}
 use Rattle.lists.specs.Tabulation.{chunks}
 use Rattle.lists.proofs.PartLaws.{chunks-turn, chunks-full, length-part}
-use Rattle.maker.specs.Numbers.{numberTable}
-use Rattle.maker.proofs.NumberLaws.{numberRow, length-row, row-is, blank-part}
-use Rattle.maker.proofs.numbers.number_table.Statement.{statement}
-use Rattle.maker.proofs.numbers.number_table.Tie as tie
+use Rattle.coding_maker.specs.Numbers.{numberTable}
+use Rattle.coding_maker.proofs.NumberLaws.{numberRow, length-row, row-is, blank-part}
+use Rattle.coding_maker.proofs.numbers.number_table.Statement.{statement}
+use Rattle.coding_maker.proofs.numbers.number_table.Tie as tie
 
 abbrev Inv-loop : tie.InvT-loop
 Inv-loop table₀ a₀ k₀ table a k =

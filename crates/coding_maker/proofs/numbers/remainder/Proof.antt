@@ -3,9 +3,9 @@ use mathlib.Core.Path.{_∙_}
 use Prim.Native.Nat.{_+_, _-_}
 use native.Mathlib.Omega.{arith}
 use borrow.Author.Needs.{needs}
-use Rattle.maker.proofs.NumberLaws.{remainder-first, remainder-again}
-use Rattle.maker.proofs.numbers.remainder.Statement.{statement}
-use Rattle.maker.proofs.numbers.remainder.Tie as tie
+use Rattle.coding_maker.proofs.NumberLaws.{remainder-first, remainder-again}
+use Rattle.coding_maker.proofs.numbers.remainder.Statement.{statement}
+use Rattle.coding_maker.proofs.numbers.remainder.Tie as tie
 
 returns : tie.Need-returns
 returns c = let a = c .before .args in remainder-first (a .k) (a .b) (omega (arith, c .if1 .taken))

@@ -3,7 +3,7 @@ use mathlib.Core.Path.{_≡_}
 use mathlib.Core.List.{List, [], _∷_}
 use Prim.Native.Nat.{ℕ, suc}
 use Rattle.lists.specs.Tabulation.{tab}
-use Rattle.maker.specs.Draw.{limit, codingFrom, codingDraws}
+use Rattle.coding_maker.specs.Draw.{limit, codingFrom, codingDraws}
 
 -- 0 for every k: each place changes contents with place 0
 abbrev pub zeroBytes : List ℕ

@@ -1,0 +1,5 @@
+pub mod Draw
+pub mod Numbers
+pub mod Parts
+pub mod Laws
+pub mod Examples
