@@ -118,7 +118,8 @@ extern "C" {
 
 /*
  * So many random bytes suffice for a chain or a reading chain, nearly always: how many are drawn depends on
- * the bytes. A call that draws more is refused, and may be made again with more.
+ * the bytes. A call that draws more is refused, has used none, and may be made again with the same bytes and
+ * more behind them.
  */
 #define BOWLINETTE_RANDOM_LENGTH_128 19500
 #define BOWLINETTE_RANDOM_LENGTH_192 22500
@@ -262,14 +263,14 @@ uint32_t bowlinette_check_reading_chain(size_t key_length,
                                         const uint8_t *chain, size_t chain_length);
 
 /*
- * Makes a chain for keys of a length from random bytes and writes it to the front of out, which may be
- * longer: the bytes after the chain stay as they were. Drawn are U, the sets, but for the words that the
+ * Makes a chain for keys of key_length bytes from random bytes and writes it to the front of out, which may
+ * be longer: the bytes after the chain stay as they were. Drawn are U, the sets, but for the words that the
  * word 3 rule fixes, and for each round its middle codings and its masks, but for those of half byte 0. How
  * many bytes were used up goes to drawn; more may be given, and those after them are not looked at.
  * Refuses 1 (key length), 9 (out shorter than the chain), then 32 (fewer random bytes than are drawn).
  * TAKE CARE: the chain is as secret as the random bytes. They are the caller's, from the system's generator
- * (getrandom), and each is used once: a byte that was drawn must never be given again, to any call, nor be
- * known to anyone.
+ * (getrandom), and each is used once: a byte that a chain was drawn from must never be given again, to any
+ * call, nor be known to anyone.
  */
 uint32_t bowlinette_make_chain(size_t key_length,
                                const uint8_t *random, size_t random_length,

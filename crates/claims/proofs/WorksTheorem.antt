@@ -34,7 +34,7 @@ use Rattle.claims.specs.Works.{Made, ReadingMade, chainIn, ChainTaken, R
 use Rattle.claims.proofs.BuiltLaws.{not-refused, clear-front, size-known}
 use Rattle.claims.proofs.LoneSets.{archive-set}
 use Rattle.claims.proofs.Demand3Theorem.{demand3-for-all}
-use Rattle.claims.proofs.ReviewTheorem.{shows-for-all}
+use Rattle.claims.proofs.ReviewTheorem.{shows-for-all, reviews}
 
 -- ---- what an answer 0 tells
 
@@ -83,7 +83,7 @@ module _ (key random out held : List ℕ) (k : ℕ) (made : Made key random out 
   valid : Chain (keySize key) (chainMade sealing (keyRounds key) random)
   valid = maker-laws .chains (keySize key) .wanted random
 
-  pub made-valid : Chain (keySize key) (chainIn key held)
+  made-valid : Chain (keySize key) (chainIn key held)
   made-valid = rw (chain-is (makeTests (length key) random out) numbered sealing key random out held k made (valid .size)) valid
 
   made-taken : Bytes key → ChainTaken key (chainIn key held)
@@ -134,7 +134,7 @@ module _ (key set random out held : List ℕ) (k : ℕ) (made : ReadingMade key 
         books = λ bout h. shows-for-all (keySize key) key (chainIn key held) bout reading-size hk v h;
       }
 
--- with a set that is valid, making a reading chain answers 0, 9 or 32
+-- with a set that is valid, making a reading chain gives none of the refusals below 9
 few-numbers : (z : KeySize) (set : List ℕ) → LoneSet set → (random out : List ℕ) (q : ℕ) → 0 < q → q < 9 → makeReadingAnswer (keyLength z) set random out .0 .0 ≡ q → ⊥
 few-numbers z set v random out q more less e = go (decLt (length out) (chainLength z)) (decLt (length random) (chainDraws (reading set) (rounds z) random))
   where
@@ -158,6 +158,9 @@ pub works-laws : WorksLaws
 works-laws = record {
   chains = λ key random out held k hk made. (made-count key random out held k made, made-taken key random out held k made hk);
   reading-chains = λ key set random out held k hk made. (reading-count key set random out held k made, reading-taken key set random out held k made hk);
+  reviews = λ key random out held random' out' held' k k' hk made rmade bout bheld rout rheld built rbuilt m iv hm most li.
+      reviews key (chainIn key held) bout bheld (chainIn key held') rout rheld built rbuilt
+      (reading-taken key (archiveSet key (chainIn key held)) random' out' held' k' rmade hk .first) hk m iv hm most li;
   sets = λ key random out held random' out' k made.
       (never key random out held k made random' out' 2 (lit< tt) (lit< tt), never key random out held k made random' out' 3 (lit< tt) (lit< tt));
 }

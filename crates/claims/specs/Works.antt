@@ -4,17 +4,18 @@ use mathlib.Core.Path.{_≡_}
 use mathlib.Core.List.{List}
 use Prim.Native.Nat.{ℕ, _≤_}
 use lib.ListN.{length, take}
-use Rattle.lists.specs.Blocks.{Bytes}
+use Rattle.lists.specs.Blocks.{Bytes, blockLength}
 use Rattle.cipher.specs.KeySize.{bookLength, chainLength}
+use Rattle.cipher.specs.Lengths.{longestMessage}
 use Rattle.cipher.specs.Chain.{Chain}
 use Rattle.cipher.specs.Answers.{keySize, chainChecked}
 use Rattle.reading.specs.Chain.{ReadingChain}
 use Rattle.reading.specs.Book.{readingBookLength}
 use Rattle.reading_book.specs.Answers.{readingChainChecked}
 use Rattle.maker.specs.Answers.{makeAnswer, makeReadingAnswer}
-use Rattle.claims.specs.Built.{archiveSet}
+use Rattle.claims.specs.Built.{Built, bookIn, archiveSet}
 use Rattle.claims.specs.Demand3.{BuiltDemand3}
-use Rattle.claims.specs.Review.{firstSet, BuiltShows}
+use Rattle.claims.specs.Review.{ReadingBuilt, readingBookIn, firstSet, Reviewed, BuiltShows}
 
 -- making a chain for a key into `out`, or a reading chain with a given set 0, answers 0, tells k bytes and leaves the buffer `held`
 abbrev pub Made : List ℕ → List ℕ → List ℕ → ℕ → List ℕ → Type 0
@@ -44,6 +45,11 @@ pub record WorksLaws : Type 0 where
   pub chains : (key random out held : List ℕ) (k : ℕ) → Bytes key → Made key random out k held → (k ≤ length random) × ChainTaken key (chainIn key held)
   pub reading-chains : (key set random out held : List ℕ) (k : ℕ) → Bytes key → ReadingMade key set random out k held
       → (k ≤ length random) × ReadingTaken key set (chainIn key held)
+  -- what the book of a chain that was made seals, the reading book of a reading chain that was made from the archive's set shows: the padded message
+  pub reviews : (key random out held random' out' held' : List ℕ) (k k' : ℕ) → Bytes key → Made key random out k held
+      → ReadingMade key (archiveSet key (chainIn key held)) random' out' k' held' → (bout bheld rout rheld : List ℕ) → Built key (chainIn key held) bout bheld
+      → ReadingBuilt key (chainIn key held') rout rheld → (m iv : List ℕ) → Bytes m → length m ≤ longestMessage → length iv ≡ blockLength
+      → Reviewed key (chainIn key held) (chainIn key held') (bookIn key bheld) (readingBookIn key rheld) iv m
   -- the archive's set of a chain that was made is never refused
   pub sets : (key random out held random' out' : List ℕ) (k : ℕ) → Made key random out k held
       → (makeReadingAnswer (length key) (archiveSet key (chainIn key held)) random' out' .0 .0 ≡ 2 → ⊥)

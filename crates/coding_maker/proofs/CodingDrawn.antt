@@ -10,7 +10,7 @@ use borrow.Author.Tests.{lt-leb}
 use lib.Dec.{lit<}
 use lib.ListN.{length, getD, set, drop, length-set}
 use lib.Seq.{getD-set-same, getD-set-other, ext-getD}
-use Rattle.lists.specs.Blocks.{Below}
+use Rattle.lists.specs.Blocks.{Below, Bytes}
 use Rattle.lists.proofs.TabulationLaws.{length-tab, getD-tab}
 use Rattle.cipher.specs.Coding.{decode}
 use Rattle.cipher.proofs.Permutation.{decode-lt, code-decode}
@@ -243,6 +243,9 @@ bytes-low x hx (suc k) hk c hc (suc i) =
     bytes-low x hx k (omega arith) (swapped c (suc k) (decode (sends c) (sends x (suc k))))
     (swap-coding c (suc k) (decode (sends c) (sends x (suc k))) hc hk (decode-lt (sends c) (hc .permutes) (sends x (suc k)) (hx .permutes .low (suc k) hk))) i
 
-pub low-bytes : (x : List ℕ) → IsCoding x → Below 16 (bytesFor x)
+low-bytes : (x : List ℕ) → IsCoding x → Below 16 (bytesFor x)
 unfolding bytesFor
 low-bytes x h = bytes-low x h 15 (lit< tt) unshuffled unshuffled-coding
+
+pub coding-bytes : (x : List ℕ) → IsCoding x → Bytes (bytesFor x)
+coding-bytes x h k = let b = low-bytes x h k in omega arith

@@ -1,5 +1,5 @@
--- Laws of counts of bytes drawn: of one draw behind another, and of parts drawn in order. They look at no byte behind those that they
--- draw; where the bytes do not suffice, they do not with others behind them either, before those are reached.
+-- Laws of counts of bytes drawn: of one draw behind another, and of parts drawn in order. No byte behind those that are drawn is looked
+-- at; and where the bytes do not suffice, more than those are drawn also if others follow them.
 use mathlib.Core.Path.{_≡_, refl, ap, _∙_}
 use mathlib.Core.Bool.{Bool, true, false, cond}
 use mathlib.Core.List.{List, [], _∷_, _++_}
@@ -90,7 +90,7 @@ skipped-more k (b ∷ s) t h = go (leb (limit k) b) (skipped-more k s t) h
     go true ih l = suc-le-suc (ih (le-of-suc-le-suc l))
     go false ih l = absurd (omega arith)
 
-pub steady-drawn : (k : ℕ) → Steady (drawn k)
+steady-drawn : (k : ℕ) → Steady (drawn k)
 steady-drawn k = record {
   same = λ s t h. ap suc (skipped-same k s t h);
   more = λ s t h. suc-le-suc (skipped-more k s t (le-of-suc-le-suc h));
@@ -148,7 +148,7 @@ decided-part u h (suc n) k l m d = go (decLt k n) (λ b. decided-part u h n k b 
 abbrev pub Within : ℕ → (List ℕ → ℕ) → Type 0
 Within m u = (s : List ℕ) → u s ≤ length s + m
 
-pub within-after : (a b : ℕ) (u w : List ℕ → ℕ) → Within a u → Within b w → Within (a + b) (after u w)
+within-after : (a b : ℕ) (u w : List ℕ → ℕ) → Within a u → Within b w → Within (a + b) (after u w)
 within-after a b u w hu hw s =
     let x = hu s in
     let y = hw (drop (u s) s) in

@@ -6,4 +6,4 @@ use Rattle.coding_maker.specs.Examples.{MarkedCodings}
 
 pub marked-codings : MarkedCodings
 unfolding tab skipped swapped shuffled shuffleDraws unshuffled codingFrom codingDraws
-marked-codings = record { limits = refl; zero = refl; own = refl; skips = refl; zero-count = refl; skip-count = refl }
+marked-codings = record { limits = refl; zero = refl; seven = refl; own = refl; skips = refl; zero-count = refl; skip-count = refl }

@@ -1,4 +1,4 @@
--- Drawing from random bytes (document 02, 2026-03): a number, and a coding that starts as 0 to 15 and whose places change contents.
+-- Drawing from random bytes (document 02, 2026-03): a number, and a coding, which starts as 0 to 15 and of which two places at a time are exchanged.
 -- What is left of the bytes stands in front; where they have ended, zeros are read on. A zero is taken for every k, so drawing always
 -- comes to an end, and whether it went past the bytes that were given is told by how many it drew.
 use mathlib.Core.Bool.{cond}
@@ -11,7 +11,7 @@ use Rattle.cipher.specs.Lengths.{codingLength}
 
 -- ---- one number
 
--- a byte from here on is skipped for k: below it there are as many bytes for each of the numbers 0 to k
+-- a byte from here on is skipped for k: of the bytes below, equally many leave each of the remainders 0 to k
 abbrev pub limit : ℕ → ℕ
 limit k = 256 - 256 % (k + 1)
 
@@ -30,11 +30,11 @@ chosen k s = getD s (skipped k s) 0 % (k + 1)
 
 -- ---- a coding
 
--- places k and j of c change contents
+-- the contents of the places k and j of c exchanged
 unfoldable pub swapped : List ℕ → ℕ → ℕ → List ℕ
 swapped c k j = set (set c k (getD c j 0)) j (getD c k 0)
 
--- c, when the places from k down to 1 have changed contents with what is drawn for them
+-- c, when each place from k down to 1 is exchanged with the one that is drawn for it
 unfoldable pub shuffled : ℕ → List ℕ → List ℕ → List ℕ
 shuffled zero c s = c
 shuffled (suc k) c s = shuffled k (swapped c (suc k) (chosen (suc k) s)) (drop (drawn (suc k) s) s)

@@ -5,9 +5,13 @@ use Prim.Native.Nat.{ℕ, suc}
 use Rattle.lists.specs.Tabulation.{tab}
 use Rattle.coding_maker.specs.Draw.{limit, codingFrom, codingDraws}
 
--- 0 for every k: each place changes contents with place 0
+-- 0 for every k: each place is exchanged with place 0
 abbrev pub zeroBytes : List ℕ
 zeroBytes = 0 ∷ 0 ∷ 0 ∷ 0 ∷ 0 ∷ 0 ∷ 0 ∷ 0 ∷ 0 ∷ 0 ∷ 0 ∷ 0 ∷ 0 ∷ 0 ∷ 0 ∷ []
+
+-- 7 for every k: the places from 15 down to 8 are exchanged with place 7, place 6 with place 0, 5 with 1, 4 with 2, 2 with 1, and 7, 3 and 1 stay
+abbrev pub sevenBytes : List ℕ
+sevenBytes = 7 ∷ 7 ∷ 7 ∷ 7 ∷ 7 ∷ 7 ∷ 7 ∷ 7 ∷ 7 ∷ 7 ∷ 7 ∷ 7 ∷ 7 ∷ 7 ∷ 7 ∷ []
 
 -- k for every k, or what leaves the same remainder: each place stays as it is
 abbrev pub ownBytes : List ℕ
@@ -22,6 +26,7 @@ pub record MarkedCodings : Type 0 where
   -- from where on bytes are skipped, for k from 1 to 15
   pub limits : tab 15 (λ k. limit (suc k)) ≡ 256 ∷ 255 ∷ 256 ∷ 255 ∷ 252 ∷ 252 ∷ 256 ∷ 252 ∷ 250 ∷ 253 ∷ 252 ∷ 247 ∷ 252 ∷ 255 ∷ 256 ∷ []
   pub zero : codingFrom zeroBytes ≡ 1 ∷ 2 ∷ 3 ∷ 4 ∷ 5 ∷ 6 ∷ 7 ∷ 8 ∷ 9 ∷ 10 ∷ 11 ∷ 12 ∷ 13 ∷ 14 ∷ 15 ∷ 0 ∷ []
+  pub seven : codingFrom sevenBytes ≡ 6 ∷ 4 ∷ 5 ∷ 3 ∷ 2 ∷ 1 ∷ 0 ∷ 8 ∷ 9 ∷ 10 ∷ 11 ∷ 12 ∷ 13 ∷ 14 ∷ 15 ∷ 7 ∷ []
   pub own : codingFrom ownBytes ≡ 0 ∷ 1 ∷ 2 ∷ 3 ∷ 4 ∷ 5 ∷ 6 ∷ 7 ∷ 8 ∷ 9 ∷ 10 ∷ 11 ∷ 12 ∷ 13 ∷ 14 ∷ 15 ∷ []
   pub skips : codingFrom skippedBytes ≡ 0 ∷ 1 ∷ 2 ∷ 3 ∷ 4 ∷ 5 ∷ 6 ∷ 7 ∷ 8 ∷ 9 ∷ 10 ∷ 11 ∷ 12 ∷ 13 ∷ 14 ∷ 15 ∷ []
   -- how many bytes these draw

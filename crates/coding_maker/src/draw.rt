@@ -1,6 +1,7 @@
 // Drawing one coding from random bytes (document 02, 2026-03). Where the bytes have ended, zeros are
 // read on; that the bytes suffice is known before anything is written. Each function that draws gives
-// the place of the first byte that is left.
+// the place of the first byte that is left. A draw goes past the end by one byte for each number at most;
+// the bounds in the contracts leave room for that, so that no sum is too large for a machine word.
 ghost use mathlib.Core.Path.{_≡_};
 ghost use Prim.Native.Nat.{_+_, _≤_, _<_};
 ghost use lib.ListN.{length, drop};
@@ -64,7 +65,7 @@ fn unshuffle(out: &mut [u8])
     }
 }
 
-// A coding drawn: each place from 15 down to 1 changes contents with one that is not behind it.
+// A coding drawn: each place from 15 down to 1 is exchanged with one that is not behind it.
 pub fn draw_coding(table: &[u8], random: &[u8], start: usize, out: &mut [u8]) -> usize
     requires { ⌜ (now table ≡ numberTable) × (start ≤ length (now random) + 1000000) × (length (now out) ≡ codingLength) ⌝ }
     ensures { λ r. ⌜ (r ≡ start + D.codingDraws (drop start (now (random .entry)))) × (now (out .exit) ≡ D.codingFrom (drop start (now (random .entry)))) ⌝ }

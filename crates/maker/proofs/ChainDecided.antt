@@ -104,7 +104,7 @@ masks-same =
     decided-tab (begins maskUse 24) 24 (λ s k. maskFrom k (left maskUse k s)) (λ k h.
     decided-part maskUse steady-mask 24 k h (maskFrom k) (mask-same k))
 
-pub steady-round : Steady roundDraws
+steady-round : Steady roundDraws
 unfolding roundDraws
 steady-round = steady-after middlesDraw masksDraw steady-middles steady-masks
 
@@ -128,7 +128,7 @@ module _ (p : Plan) (w : TwoWords (p .from) (p .to)) (r : ℕ) where
       decided-chunks (begins roundUse r) r (λ s l. roundFrom (left roundUse l s)) (λ l h.
       decided-part roundUse (λ l. steady-round) r l h roundFrom round-same)
 
-  pub steady-chain : Steady (chainDraws p r)
+  steady-chain : Steady (chainDraws p r)
   unfolding chainDraws
   steady-chain = steady-after (setsDraw p r) (roundsDraw r) (steady-sets p r) steady-rounds
 

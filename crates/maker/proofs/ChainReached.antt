@@ -30,7 +30,7 @@ use Rattle.coding_maker.specs.Parts.{begins, left}
 use Rattle.maker.specs.MadeChain.{setUse, freeCoding, setCoding, fixedMask, maskUse, maskFrom, middleUse, middlesDraw, middlesFrom, masksDraw, masksFrom, roundDraws}
 use Rattle.maker.specs.MadeChain.{roundFrom, setsDraw, setsFrom, roundUse, roundsDraw, roundsFrom, chainDraws, chainMade}
 use Rattle.coding_maker.proofs.DrawCounts.{after}
-use Rattle.coding_maker.proofs.CodingDrawn.{sends, bytesFor, length-bytes, low-bytes, coding-reached, draws-reached}
+use Rattle.coding_maker.proofs.CodingDrawn.{sends, bytesFor, length-bytes, coding-bytes, coding-reached, draws-reached}
 use Rattle.maker.proofs.ChainValid.{codingOf}
 use Rattle.maker.proofs.Places.{source-free, source-fixed, fixed-known, free-source, source-le, mask-fixed, mask-free}
 
@@ -91,14 +91,14 @@ coding-of l k h p = record {
 -- ---- the sets of a chain
 
 -- the bytes for coding k
-unfoldable pub setBytes : Plan → List ℕ → ℕ → List ℕ
-setBytes p l k = cond (undrawn p k) [] (bytesFor (codingOf l k))
+unfoldable pub placeBytes : Plan → List ℕ → ℕ → List ℕ
+placeBytes p l k = cond (undrawn p k) [] (bytesFor (codingOf l k))
 
 module _ (p : Plan) (two : TwoWords (p .from) (p .to)) (n : ℕ) (l : List ℕ) (codings : (k : ℕ) → k < n → IsCoding (codingOf l k))
     (kept : (k : ℕ) → k < n → codingOf l (source p k) ≡ codingOf l k)
     (same : (k : ℕ) → k < n → givenCoding p k ≡ true → codingOf (p .given) (k - 32) ≡ codingOf l k) where
-  set-draws : (k : ℕ) → k < n → Draws (setUse p k) (setBytes p l k)
-  unfolding setUse setBytes
+  set-draws : (k : ℕ) → k < n → Draws (setUse p k) (placeBytes p l k)
+  unfolding setUse placeBytes
   set-draws k h t = go (undrawn p k)
     where
       go : (b : Bool) → cond b 0 (codingDraws (cond b [] (bytesFor (codingOf l k)) ++ t)) ≡ length (cond b [] (bytesFor (codingOf l k)))
@@ -106,26 +106,26 @@ module _ (p : Plan) (two : TwoWords (p .from) (p .to)) (n : ℕ) (l : List ℕ) 
       go false = draws-reached (codingOf l k) (codings k h) t ∙ sym (length-bytes (codingOf l k) (codings k h))
 
   -- a coding that no rule fixes, from its bytes
-  free-reached : (k : ℕ) → k < n → fixedCoding p k ≡ false → (t : List ℕ) → freeCoding p k (setBytes p l k ++ t) ≡ codingOf l k
-  unfolding freeCoding setBytes
+  free-reached : (k : ℕ) → k < n → fixedCoding p k ≡ false → (t : List ℕ) → freeCoding p k (placeBytes p l k ++ t) ≡ codingOf l k
+  unfolding freeCoding placeBytes
   free-reached k h f t = rw f (go (givenCoding p k) refl)
     where
       go : (b : Bool) → givenCoding p k ≡ b → cond b (codingOf (p .given) (k - 32)) (codingFrom (cond b [] (bytesFor (codingOf l k)) ++ t)) ≡ codingOf l k
       go true e = same k h e
       go false e = coding-reached (codingOf l k) (codings k h) t
 
-  set-reached : (t : List ℕ) (k : ℕ) → k < n → setCoding p (chunks n (setBytes p l) ++ t) k ≡ codingOf l k
+  set-reached : (t : List ℕ) (k : ℕ) → k < n → setCoding p (chunks n (placeBytes p l) ++ t) k ≡ codingOf l k
   unfolding setCoding
   set-reached t k h =
       let b : source p k < n = omega (arith, source-le p two k) in
-      let f = found (setUse p) (setBytes p l) n set-draws (source p k) b t in
+      let f = found (setUse p) (placeBytes p l) n set-draws (source p k) b t in
       ap (freeCoding p (source p k)) (f .1) ∙ free-reached (source p k) b (free-source p two k) (f .0) ∙ kept k h
 
-  sets-draw : Draws (begins (setUse p) n) (chunks n (setBytes p l))
-  sets-draw = draws-begins (setUse p) (setBytes p l) n set-draws
+  sets-draw : Draws (begins (setUse p) n) (chunks n (placeBytes p l))
+  sets-draw = draws-begins (setUse p) (placeBytes p l) n set-draws
 
-  sets-reached : (t : List ℕ) → chunks n (setCoding p (chunks n (setBytes p l) ++ t)) ≡ take (16 * n) l
-  sets-reached t = chunks-ext n (setCoding p (chunks n (setBytes p l) ++ t)) (codingOf l) (set-reached t) ∙ cut-chunks 16 n l
+  sets-reached : (t : List ℕ) → chunks n (setCoding p (chunks n (placeBytes p l) ++ t)) ≡ take (16 * n) l
+  sets-reached t = chunks-ext n (setCoding p (chunks n (placeBytes p l) ++ t)) (codingOf l) (set-reached t) ∙ cut-chunks 16 n l
 
 -- ---- a round
 
@@ -206,7 +206,7 @@ module _ (l : List ℕ) (h : Round l) where
 
 -- the bytes from which ch is drawn
 unfoldable pub chainBytes : Plan → ℕ → List ℕ → List ℕ
-chainBytes p r ch = chunks (32 * (r + 2)) (setBytes p ch) ++ chunks r (λ l. roundBytesFor (roundBytes r ch l))
+chainBytes p r ch = chunks (32 * (r + 2)) (placeBytes p ch) ++ chunks r (λ l. roundBytesFor (roundBytes r ch l))
 
 -- a chain by the word rule of a plan, which has what is given
 pub record Planned (p : Plan) (z : KeySize) (ch : List ℕ) : Type 0 where
@@ -293,18 +293,18 @@ module _ (p : Plan) (z : KeySize) (ch : List ℕ) (planned : Planned p z ch) whe
       ∙ cut-chunks 408 r (drop (512 * (r + 2)) ch)
       ∙ take-all (408 * r) (drop (512 * (r + 2)) ch) (rw (length-drop (512 * (r + 2)) ch) (omega (arith, h .size)))
 
-  sets-part : Draws (setsDraw p r) (chunks (32 * (r + 2)) (setBytes p ch))
+  sets-part : Draws (setsDraw p r) (chunks (32 * (r + 2)) (placeBytes p ch))
   unfolding setsDraw
   sets-part = sets-draw p (planned .two) (32 * (r + 2)) ch codings kept (planned .same)
 
   pub chain-draws : (t : List ℕ) → chainDraws p (rounds z) (chainBytes p (rounds z) ch ++ t) ≡ length (chainBytes p (rounds z) ch)
   unfolding chainDraws chainBytes
-  chain-draws = draws-after (setsDraw p r) (chunks (32 * (r + 2)) (setBytes p ch)) sets-part (roundsDraw r) (chunks r roundParts) rounds-draw
+  chain-draws = draws-after (setsDraw p r) (chunks (32 * (r + 2)) (placeBytes p ch)) sets-part (roundsDraw r) (chunks r roundParts) rounds-draw
 
   pub chain-reached : (t : List ℕ) → chainMade p (rounds z) (chainBytes p (rounds z) ch ++ t) ≡ ch
   unfolding chainMade chainBytes setsFrom
   chain-reached t =
-      let a = chunks (32 * (r + 2)) (setBytes p ch) in
+      let a = chunks (32 * (r + 2)) (placeBytes p ch) in
       let q = chunks r roundParts in
       let e : 16 * (32 * (r + 2)) ≡ 512 * (r + 2) = omega arith in
       (λ i. (ap (λ (s : List ℕ). chunks (32 * (r + 2)) (setCoding p s)) (append-assoc a q t)
@@ -319,11 +319,8 @@ unfolding chunks
 bytes-chunks zero g h = λ k. lit< tt
 bytes-chunks (suc n) g h = bytes-append (chunks n g) (g n) (bytes-chunks n g (λ k l. h k (omega arith))) (h n (omega arith))
 
-coding-bytes : (x : List ℕ) → IsCoding x → Bytes (bytesFor x)
-coding-bytes x h k = let b = low-bytes x h k in omega arith
-
-set-bytes : (p : Plan) (l : List ℕ) (k : ℕ) → IsCoding (codingOf l k) → Bytes (setBytes p l k)
-unfolding setBytes
+set-bytes : (p : Plan) (l : List ℕ) (k : ℕ) → IsCoding (codingOf l k) → Bytes (placeBytes p l k)
+unfolding placeBytes
 set-bytes p l k h = go (undrawn p k)
   where
     go : (b : Bool) → Bytes (cond b [] (bytesFor (codingOf l k)))
@@ -349,6 +346,6 @@ round-bytes l h =
 pub chain-bytes : (p : Plan) (z : KeySize) (ch : List ℕ) → Planned p z ch → Bytes (chainBytes p (rounds z) ch)
 unfolding chainBytes
 chain-bytes p z ch h =
-    bytes-append (chunks (32 * (rounds z + 2)) (setBytes p ch)) (chunks (rounds z) (λ l. roundBytesFor (roundBytes (rounds z) ch l)))
-    (bytes-chunks (32 * (rounds z + 2)) (setBytes p ch) (λ k l. set-bytes p ch k (codings p z ch h k l)))
+    bytes-append (chunks (32 * (rounds z + 2)) (placeBytes p ch)) (chunks (rounds z) (λ l. roundBytesFor (roundBytes (rounds z) ch l)))
+    (bytes-chunks (32 * (rounds z + 2)) (placeBytes p ch) (λ k l. set-bytes p ch k (codings p z ch h k l)))
     (bytes-chunks (rounds z) (λ l. roundBytesFor (roundBytes (rounds z) ch l)) (λ l hl. round-bytes (roundBytes (rounds z) ch l) (round-of p z ch h l hl)))

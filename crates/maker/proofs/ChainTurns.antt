@@ -80,7 +80,7 @@ masks-so-far (suc n) s = let ih = masks-so-far n s in go (ℕ-discrete (n % 8) 0
     go (no e) ih = rw (mask-free n e) (omega arith)
 
 -- so the masks of a round draw 21 bytes
-pub masks-draw-21 : (s : List ℕ) → masksDraw s ≡ 21
+masks-draw-21 : (s : List ℕ) → masksDraw s ≡ 21
 unfolding masksDraw
 masks-draw-21 s = masks-so-far 24 s
 

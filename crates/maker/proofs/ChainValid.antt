@@ -58,7 +58,7 @@ round-mask s k hk =
     getD-second (middlesFrom s) (masksFrom (drop (middlesDraw s) s)) 384 k (384 + k) (length-middles s) refl
     ∙ getD-tab 24 (maskOf (drop (middlesDraw s) s)) k hk
 
-pub mask-lt : (k : ℕ) (s : List ℕ) → maskFrom k s < 2
+mask-lt : (k : ℕ) (s : List ℕ) → maskFrom k s < 2
 unfolding maskFrom
 mask-lt k s = go (fixedMask k)
   where
@@ -114,7 +114,7 @@ module _ (p : Plan) where
   set-same s i j e = ap (λ (k : ℕ). freeCoding p k (left (setUse p) k s)) e
 
   module _ (r : ℕ) (s : List ℕ) where
-    pub length-sets : length (setsFrom p r s) ≡ 512 * (r + 2)
+    length-sets : length (setsFrom p r s) ≡ 512 * (r + 2)
     unfolding setsFrom
     length-sets = length-chunks (setCoding p s) 16 (length-setCoding s) (32 * (r + 2)) ∙ omega arith
 

@@ -5,3 +5,4 @@ pub mod ChainReached
 pub mod ChainTurns
 pub mod MakeAnswers
 pub mod MakerTheorem
+pub mod Example

@@ -94,26 +94,26 @@ module _ (n : ℕ) (set random out : List ℕ) where
   abbrev made : KeySize → Answer
   made z = done (reading set) z random out
 
-  pub read-key : sizeOfKey n ≡ Unknown → makeReadingAnswer n set random out ≡ ((1, 0), out)
+  pub reading-key : sizeOfKey n ≡ Unknown → makeReadingAnswer n set random out ≡ ((1, 0), out)
   unfolding madeInto makeReadingTests
-  read-key e = length-refused n (λ z. setTests set ++ rest z) (refuse out) made e
+  reading-key e = length-refused n (λ z. setTests set ++ rest z) (refuse out) made e
 
   module _ (z : KeySize) (e : sizeOfKey n ≡ Found z) where
     keyed : makeReadingAnswer n set random out ≡ first (setTests set ++ rest z) (refuse out) (made z)
     unfolding madeInto makeReadingTests
     keyed = length-taken n (λ z. setTests set ++ rest z) (refuse out) made z e
 
-    pub read-set-length : (length set ≡ setLength → ⊥) → makeReadingAnswer n set random out ≡ ((2, 0), out)
-    read-set-length h = keyed ∙ set-length-refused (rest z) (refuse out) (made z) set h
+    pub reading-set-length : (length set ≡ setLength → ⊥) → makeReadingAnswer n set random out ≡ ((2, 0), out)
+    reading-set-length h = keyed ∙ set-length-refused (rest z) (refuse out) (made z) set h
 
-    pub read-set-coding : length set ≡ setLength → (Permutations (setOf set) → ⊥) → makeReadingAnswer n set random out ≡ ((3, 0), out)
-    read-set-coding h b = keyed ∙ set-coding-refused (rest z) (refuse out) (made z) set h b
+    pub reading-set-coding : length set ≡ setLength → (Permutations (setOf set) → ⊥) → makeReadingAnswer n set random out ≡ ((3, 0), out)
+    reading-set-coding h b = keyed ∙ set-coding-refused (rest z) (refuse out) (made z) set h b
 
     -- both, as the check of the set tells them
-    pub read-set : (r : Outcome) → outcomeOf r ≡ setChecked set → (q : Refusal) → r ≡ Refused q → makeReadingAnswer n set random out ≡ ((numberOf q, 0), out)
-    read-set r er q d = keyed ∙ told-refused (rest z) (refuse out) (made z) (setTests set) (numberOf q) (number-more q) (sym er ∙ ap outcomeOf d)
+    pub reading-set : (r : Outcome) → outcomeOf r ≡ setChecked set → (q : Refusal) → r ≡ Refused q → makeReadingAnswer n set random out ≡ ((numberOf q, 0), out)
+    reading-set r er q d = keyed ∙ told-refused (rest z) (refuse out) (made z) (setTests set) (numberOf q) (number-more q) (sym er ∙ ap outcomeOf d)
 
     -- otherwise what making says for the key's size
-    pub read-sized : LoneSet set → makeReadingAnswer n set random out ≡ madeInto (drawTests (reading set) z random out) (reading set) z random out
+    pub reading-sized : LoneSet set → makeReadingAnswer n set random out ≡ madeInto (drawTests (reading set) z random out) (reading set) z random out
     unfolding madeInto
-    read-sized v = keyed ∙ set-taken (rest z) (refuse out) (made z) set v
+    reading-sized v = keyed ∙ set-taken (rest z) (refuse out) (made z) set v

@@ -2,7 +2,7 @@
 use mathlib.Core.Path.{_≡_, sym, ap, _∙_}
 use mathlib.Core.Bool.{true}
 use mathlib.Core.List.{List}
-use Prim.Native.Nat.{ℕ, _+_, _-_, _*_, _/_, _%_, _≤_, _<_}
+use Prim.Native.Nat.{ℕ, _+_, _-_, _*_, _/_, _%_, _≤_, _<_, zero-le}
 use native.Mathlib.Omega.{arith}
 use borrow.Author.Tests.{le-leb, lt-ltb}
 use lib.Dec.{lit<}
@@ -13,7 +13,7 @@ use Rattle.cipher.specs.Lengths.{setLength}
 use Rattle.cipher.specs.Chain.{Chain, LoneSet}
 use Rattle.cipher.specs.declared.size.KeySize.{KeySize}
 use Rattle.cipher.proofs.KeySizeLaws.{size-of-key}
-use Rattle.cipher.proofs.ChainTests.{permutations-tested, permutations-set}
+use Rattle.cipher.proofs.ChainTests.{permutations-tested, permutations-set, lone-set}
 use Rattle.maker.specs.Plan.{Plan, sealing, reading, givenCoding}
 use Rattle.coding_maker.specs.Parts.{left}
 use Rattle.maker.specs.MadeChain.{setUse, freeCoding, setCoding, chainDraws, chainMade}
@@ -27,7 +27,7 @@ use Rattle.maker.proofs.ChainValid.{codingOf, Sound, chain-valid, chain
 use Rattle.maker.proofs.ChainDecided.{chain-same, draws-same, draws-more, fewer-lack, drawn-suffice}
 use Rattle.maker.proofs.ChainReached.{coding-at, coding-of, Planned, chainBytes, chain-draws, chain-reached, chain-bytes}
 use Rattle.maker.proofs.ChainTurns.{free-given}
-use Rattle.maker.proofs.MakeAnswers.{made-room, made-ran-out, made-done, make-key, make-sized, read-key, read-set-length, read-set-coding, read-sized}
+use Rattle.maker.proofs.MakeAnswers.{made-room, made-ran-out, made-done, make-key, make-sized, reading-key, reading-set-length, reading-set-coding, reading-sized}
 
 -- ---- an operation that goes by a plan
 
@@ -152,9 +152,10 @@ maker-laws = record {
       (λ random out. make-sized (keyLength z) random out z (size-of-key z));
   reading-chains = λ z set v. makes (reading set) (sound-reading set v) z (ReadingFrom set z) (planned-reading set v z)
       (λ random. (chain-valid (reading set) (sound-reading set v) z random, first-set set v (rounds z) random))
-      (makeReadingAnswer (keyLength z) set) (λ random out. read-sized (keyLength z) set random out z (size-of-key z) v);
+      (makeReadingAnswer (keyLength z) set) (λ random out. reading-sized (keyLength z) set random out z (size-of-key z) v);
+  first-sets = λ z ch v. lone-set (drop setLength ch) (rw (length-drop setLength ch) (omega (arith, v .size))) (v .codings .sets 0 zero-le);
   no-key = make-key;
-  reading-no-key = read-key;
-  set-length = λ z n set random out e. read-set-length n set random out z e;
-  set-coding = λ z n set random out e. read-set-coding n set random out z e;
+  reading-no-key = reading-key;
+  set-length = λ z n set random out e. reading-set-length n set random out z e;
+  set-coding = λ z n set random out e. reading-set-coding n set random out z e;
 }

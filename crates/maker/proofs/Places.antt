@@ -17,7 +17,7 @@ and-false false = refl
 -- ---- codings
 
 module _ (p : Plan) where
-  pub coding-fixed : (k : ℕ) → 64 ≤ k → k % 32 / 8 ≡ p .to → fixedCoding p k ≡ true
+  coding-fixed : (k : ℕ) → 64 ≤ k → k % 32 / 8 ≡ p .to → fixedCoding p k ≡ true
   unfolding fixedCoding
   coding-fixed k a b = rw (le-leb 64 k a, eq-eqb (k % 32 / 8) (p .to) b)
 
@@ -28,7 +28,7 @@ module _ (p : Plan) where
       (leb-true 64 k (h .0), eqb-true (k % 32 / 8) (p .to) (h .1))
 
   -- another word
-  pub coding-free : (k : ℕ) → (k % 32 / 8 ≡ p .to → ⊥) → fixedCoding p k ≡ false
+  coding-free : (k : ℕ) → (k % 32 / 8 ≡ p .to → ⊥) → fixedCoding p k ≡ false
   unfolding fixedCoding
   coding-free k h = rw (ne-eqb (k % 32 / 8) (p .to) h) (and-false (leb 64 k))
 

@@ -15,7 +15,8 @@ use Rattle.maker.specs.Plan.{sealing, reading}
 use Rattle.maker.specs.MadeChain.{chainDraws, chainMade}
 use Rattle.maker.specs.Answers.{makeAnswer, makeReadingAnswer}
 
--- how an operation answers, for random bytes and a buffer, that draws what is Wanted, a chain of n bytes
+-- what an operation answers for random bytes and a buffer, if it makes what is Wanted, of n bytes: `draws` counts the bytes that it draws, `make` is
+-- what it makes of them
 pub record Makes (draws : List ℕ → ℕ) (make : List ℕ → List ℕ) (Wanted : List ℕ → Type 0) (n : ℕ) (answer : List ℕ → List ℕ → (ℕ × ℕ) × List ℕ) : Type 0 where
   -- 9 where the buffer is shorter than a chain, 32 where more bytes are drawn than there are, else the count and the chain
   pub short : (random out : List ℕ) → length out < n → answer random out ≡ ((9, 0), out)
@@ -44,6 +45,8 @@ pub record MakerLaws : Type 0 where
   pub chains : (z : KeySize) → Makes (chainDraws sealing (rounds z)) (chainMade sealing (rounds z)) (Chain z) (chainLength z) (makeAnswer (keyLength z))
   pub reading-chains : (z : KeySize) (set : List ℕ) → LoneSet set
       → Makes (chainDraws (reading set) (rounds z)) (chainMade (reading set) (rounds z)) (ReadingFrom set z) (chainLength z) (makeReadingAnswer (keyLength z) set)
+  -- every valid reading chain has a set 0 that can be given, so that each comes out
+  pub first-sets : (z : KeySize) (ch : List ℕ) → ChainBy 3 0 z ch → LoneSet (take setLength (drop setLength ch))
   -- what is refused before: 1 for a key of no known size, 2 and 3 for the set that is given
   pub no-key : (n : ℕ) (random out : List ℕ) → sizeOfKey n ≡ Unknown → makeAnswer n random out ≡ ((1, 0), out)
   pub reading-no-key : (n : ℕ) (set random out : List ℕ) → sizeOfKey n ≡ Unknown → makeReadingAnswer n set random out ≡ ((1, 0), out)

@@ -2,3 +2,4 @@ pub mod Plan
 pub mod MadeChain
 pub mod Answers
 pub mod Laws
+pub mod Examples

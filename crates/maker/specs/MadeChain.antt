@@ -32,14 +32,15 @@ setCoding p s k = freeCoding p (source p k) (left (setUse p) (source p k) s)
 unfoldable pub fixedMask : ℕ → Bool
 fixedMask k = eqb (k % 8) 0
 
--- a mask is the lowest bit of a byte
+-- otherwise it draws a byte
 unfoldable pub maskUse : ℕ → List ℕ → ℕ
 maskUse k s = cond (fixedMask k) 0 1
 
+-- and is the lowest bit of it
 unfoldable pub maskFrom : ℕ → List ℕ → ℕ
 maskFrom k s = cond (fixedMask k) 0 (getD s 0 0 % 2)
 
--- 24 middle codings
+-- 24 middle codings: how many bytes, and the codings
 abbrev pub middleUse : ℕ → List ℕ → ℕ
 middleUse k s = codingDraws s
 
@@ -49,13 +50,14 @@ middlesDraw s = begins middleUse 24 s
 unfoldable pub middlesFrom : List ℕ → List ℕ
 middlesFrom s = chunks 24 (λ k. codingFrom (left middleUse k s))
 
--- 24 masks
+-- 24 masks: how many bytes, and the masks
 unfoldable pub masksDraw : List ℕ → ℕ
 masksDraw s = begins maskUse 24 s
 
 unfoldable pub masksFrom : List ℕ → List ℕ
 masksFrom s = tab 24 (λ k. maskFrom k (left maskUse k s))
 
+-- the middle codings, and the masks from what they leave: how many bytes, and the round
 unfoldable pub roundDraws : List ℕ → ℕ
 roundDraws s = middlesDraw s + masksDraw (drop (middlesDraw s) s)
 
@@ -64,12 +66,14 @@ roundFrom s = middlesFrom s ++ masksFrom (drop (middlesDraw s) s)
 
 -- ---- the chain
 
+-- the codings of U and the sets 0 to r: how many bytes, and the codings
 unfoldable pub setsDraw : Plan → ℕ → List ℕ → ℕ
 setsDraw p r s = begins (setUse p) (32 * (r + 2)) s
 
 unfoldable pub setsFrom : Plan → ℕ → List ℕ → List ℕ
 setsFrom p r s = chunks (32 * (r + 2)) (setCoding p s)
 
+-- r rounds: how many bytes, and the rounds
 abbrev pub roundUse : ℕ → List ℕ → ℕ
 roundUse l s = roundDraws s
 
@@ -79,7 +83,7 @@ roundsDraw r s = begins roundUse r s
 unfoldable pub roundsFrom : ℕ → List ℕ → List ℕ
 roundsFrom r s = chunks r (λ l. roundFrom (left roundUse l s))
 
--- the bytes that a chain of r rounds draws from s, and the chain
+-- a chain of r rounds, the sets first: how many bytes it draws from s, and the chain
 unfoldable pub chainDraws : Plan → ℕ → List ℕ → ℕ
 chainDraws p r s = setsDraw p r s + roundsDraw r (drop (setsDraw p r s) s)
 

@@ -1,6 +1,6 @@
 // How many bytes the draws of a chain need (document 02, 2026-03). Nothing is written here: which bytes
 // are skipped is decided by the bytes and their order alone. Each function gives the place of the first
-// byte that is left; table is that of numbers.rt.
+// byte that is left; table is that of `coding_maker`. Places behind the end are bounded as there.
 ghost use mathlib.Core.Path.{_≡_};
 ghost use Prim.Native.Nat.{_+_, _≤_};
 ghost use lib.ListN.{length, drop};
@@ -19,10 +19,10 @@ fn set_use(table: &[u8], random: &[u8], start: usize, rule: Rule, set: &[u8], k:
     requires { ⌜ (now table ≡ numberTable) × (start ≤ length (now random) + 1000000) ⌝ }
     ensures { λ r. ⌜ r ≡ start + M.setUse (planned rule (now (set .entry))) k (drop start (now (random .entry))) ⌝ }
 {
-    if fixed_coding(rule, set, k) {
+    if fixed_coding(rule, k) {
         return start;
     }
-    if given_coding(rule, set, k) {
+    if given_coding(set, k) {
         return start;
     }
     coding_draws(table, random, start)

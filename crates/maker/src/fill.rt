@@ -1,5 +1,5 @@
 // The parts of a chain, drawn into a buffer in the order in which they stand (document 02, 2026-03). Each
-// function that draws gives the place of the first byte that is left; table is that of numbers.rt.
+// function that draws gives the place of the first byte that is left; table is that of `coding_maker`.
 ghost use mathlib.Core.Path.{_≡_};
 ghost use mathlib.Core.Bool.{cond, false};
 ghost use mathlib.Core.List.{_++_};
@@ -38,7 +38,7 @@ fn free_coding(
     requires { ⌜ (now table ≡ numberTable) × (start ≤ length (now random) + 1000000) × (k ≤ 1088) × (length (now out) ≡ codingLength) × (fixedCoding (planned rule (now set)) k ≡ false) ⌝ }
     ensures { λ r. ⌜ (r ≡ start + M.setUse (planned rule (now (set .entry))) k (drop start (now (random .entry)))) × (now (out .exit) ≡ M.freeCoding (planned rule (now (set .entry))) k (drop start (now (random .entry)))) ⌝ }
 {
-    if given_coding(rule, set, k) {
+    if given_coding(set, k) {
         let coding = block_at(set, lengths::CODING * (k - lengths::SET_CODINGS));
         put_block(out, 0, coding);
         return start;
@@ -60,7 +60,7 @@ fn set_coding(
     ensures { λ r. ⌜ (r ≡ start + M.setUse (planned rule (now (set .entry))) k (drop start (now (random .entry)))) × (now (out .exit) ≡ take (codingLength * k) (now (out .entry)) ++ cond (fixedCoding (planned rule (now (set .entry))) k) (take codingLength (drop (codingLength * source (planned rule (now (set .entry))) k) (now (out .entry)))) (M.freeCoding (planned rule (now (set .entry))) k (drop start (now (random .entry)))) ++ drop (codingLength * k + codingLength) (now (out .entry))) ⌝ }
 {
     let here = lengths::CODING * k;
-    if fixed_coding(rule, set, k) {
+    if fixed_coding(rule, k) {
         let from = k + lengths::HALVES * rule.from
             - (lengths::SET_CODINGS + lengths::HALVES * rule.to);
         let coding = block_at(out, lengths::CODING * from);

@@ -2,10 +2,8 @@
 //! what LEA does.
 
 mod given;
-mod numbers;
 
-use given::{built, xor};
-use numbers::numbers;
+use given::{built, numbers, xor};
 use reference::book::{GROUP, ROUND, START};
 use reference::chain::{self, decode};
 use reference::driver::{block, fold, halves, round};

@@ -86,10 +86,10 @@ fn the_given_set() {
     }
 }
 
-/// Every byte at every place of the first coding and of the last. One that is skipped is put before the
-/// byte that is due, and one that is not in its place.
+/// The 32 lowest and the 32 highest bytes at every place of the first coding and of the last. One that is
+/// skipped is put before the byte that is due, and one that is not in its place.
 #[test]
-fn every_byte_at_every_place() {
+fn low_and_high_bytes_at_every_place() {
     let (kind, size, set) = (Kind::Sealing, Size::Lea128, IDENTITY.repeat(32));
     let (random, same) = (kind.stay(size), uniform(size, IDENTITY, 0));
     let ends = [(0, 0), (random.len() - 36, same.len() - 40)];
@@ -137,23 +137,6 @@ fn every_byte_as_a_mask() {
         (random[n], due[last]) = (byte, byte % 2);
         let told = made(kind, size, &set, &random);
         assert!(told == Ok((n + 1, due.clone())), "{byte}");
-    }
-}
-
-/// One byte for all: from 247 on it is skipped at some place, and then for ever.
-#[test]
-fn one_byte_for_all() {
-    let size = Size::Lea128;
-    for kind in KINDS {
-        for byte in 0..=255 {
-            let told = made(kind, size, &IDENTITY.repeat(32), &[byte; 30_000]);
-            let due = if byte < 247 {
-                Ok(kind.fewest(size))
-            } else {
-                Err(32)
-            };
-            assert_eq!(told.map(|(drawn, _)| drawn), due, "{kind:?}, {byte}");
-        }
     }
 }
 

@@ -2,10 +2,8 @@
 //! undo what LEA does, and what was sealed is read.
 
 mod given;
-mod numbers;
 
-use given::{block, built, xor};
-use numbers::numbers;
+use given::{block, built, numbers, xor};
 use reference::chain::{self, check_reading, decode, decode_all, Chain, CODING, SET, WORD};
 use reference::driver::{self, halves};
 use reference::lea::{self, Block};

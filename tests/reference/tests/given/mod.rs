@@ -1,7 +1,16 @@
-//! What the tests of the books are given.
+//! What the tests of the reference draw from.
 
 use reference::lea::Block;
 use reference::{book, chain, Size};
+
+/// Numbers below a bound, the same in every run.
+pub fn numbers(seed: u32) -> impl FnMut(usize) -> usize {
+    let mut state = seed;
+    move |bound| {
+        state = state.wrapping_mul(1_664_525).wrapping_add(1_013_904_223);
+        (state >> 16) as usize % bound
+    }
+}
 
 /// A random block.
 pub fn block(below: &mut impl FnMut(usize) -> usize) -> Block {

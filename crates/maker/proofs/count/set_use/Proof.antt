@@ -12,7 +12,7 @@ returns : tie.Need-returns
 returns c =
     let f = c .before in
     let a = f .before .before .before .before .args in
-    omega (arith, set-use-fixed (planned (a .rule) (a .set .now)) (a .k) (drop (a .start) (a .random .now)) (sym (f .fixed-coding .ensures) ∙ c .if1 .taken))
+    omega (arith, set-use-fixed (planned (a .rule) (a .set .now)) (a .k) (drop (a .start) (a .random .now)) (sym (f .fixed-coding .ensures (a .set .now)) ∙ c .if1 .taken))
 
 returns-2 : tie.Need-returns-2
 returns-2 c =
@@ -21,8 +21,8 @@ returns-2 c =
     let a = f .before .before .before .before .args in
     omega (
       arith,
-      set-use-given (planned (a .rule) (a .set .now)) (a .k) (drop (a .start) (a .random .now)) (sym (f .fixed-coding .ensures) ∙ g .before .if1 .left)
-          (sym (g .given-coding .ensures) ∙ c .if2 .taken),
+      set-use-given (planned (a .rule) (a .set .now)) (a .k) (drop (a .start) (a .random .now)) (sym (f .fixed-coding .ensures (a .set .now)) ∙ g .before .if1 .left)
+          (sym (g .given-coding .ensures (a .rule)) ∙ c .if2 .taken),
     )
 
 returns-3 : tie.Need-returns-3
@@ -34,7 +34,7 @@ returns-3 c =
       arith,
       c .coding-draws .ensures,
       set-use-drawn (planned (a .rule) (a .set .now)) (a .k) (drop (a .start) (a .random .now))
-          (sym (f .fixed-coding .ensures) ∙ g .before .if1 .left) (sym (g .given-coding .ensures) ∙ c .before .if2 .left),
+          (sym (f .fixed-coding .ensures (a .set .now)) ∙ g .before .if1 .left) (sym (g .given-coding .ensures (a .rule)) ∙ c .before .if2 .left),
     )
 
 pub set-use-spec : {M : Type 1} → statement M

@@ -14,7 +14,7 @@ use Rattle.maker.proofs.fill.free_coding.Tie as tie
 -- a coding of set 0
 known : (c : tie.Then1) → givenCoding (planned (c .before .before .before .before .before .before .args .rule) (c .before .before .before .before .before .before .args .set .now))
     (c .before .before .before .before .before .before .args .k) ≡ true
-known c = sym (c .before .given-coding .ensures) ∙ c .if1 .taken
+known c = sym (c .before .given-coding .ensures (c .before .before .before .before .before .before .args .rule)) ∙ c .if1 .taken
 
 sub-block-at : tie.Need-sub-block-at
 sub-block-at c = given-known _ _ (known c) .0
@@ -60,7 +60,7 @@ returns-2 c =
     let a = e .args in
     let p = planned (a .rule) (a .set .now) in
     let s = drop (a .start) (a .random .now) in
-    let f = sym (g .before .given-coding .ensures) ∙ g .if1 .left in (
+    let f = sym (g .before .given-coding .ensures (a .rule)) ∙ g .if1 .left in (
       omega (arith, d .draw-coding .ensures .0, set-use-drawn p (a .k) s (e .pre .4) f),
       d .draw-coding .ensures .1 ∙ sym (free-drawn p (a .k) s f),
     )

@@ -21,7 +21,7 @@ mul-here c = omega (arith, c .before .before .before .before .pre .3)
 -- the word rule fixes the coding
 known : (c : tie.Then1) → fixedCoding (planned (c .before .before .before .before .before .before .args .rule) (c .before .before .before .before .before .before .args .set .now))
     (c .before .before .before .before .before .before .args .k) ≡ true
-known c = sym (c .before .fixed-coding .ensures) ∙ c .if1 .taken
+known c = sym (c .before .fixed-coding .ensures (c .before .before .before .before .before .before .args .set .now)) ∙ c .if1 .taken
 
 mul-from : tie.Need-mul-from
 mul-from c = omega (arith, c .before .before .before .before .before .before .before .pre .2 .0)
@@ -82,7 +82,7 @@ returns c =
 
 free : (c : tie.Else1) → fixedCoding (planned (c .before .before .before .before .before .before .args .rule) (c .before .before .before .before .before .before .args .set .now))
     (c .before .before .before .before .before .before .args .k) ≡ false
-free c = sym (c .before .fixed-coding .ensures) ∙ c .if1 .left
+free c = sym (c .before .fixed-coding .ensures (c .before .before .before .before .before .before .args .set .now)) ∙ c .if1 .left
 
 free-coding-requires : tie.Need-free-coding-requires
 free-coding-requires c κs =

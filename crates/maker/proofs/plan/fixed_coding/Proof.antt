@@ -11,11 +11,11 @@ use Rattle.maker.proofs.plan.fixed_coding.Statement.{statement}
 use Rattle.maker.proofs.plan.fixed_coding.Tie as tie
 
 returns : tie.Need-returns
-returns c = let a = c .before .args in sym (coding-early (planned (a .rule) (a .set .now)) (a .k) (c .if1 .taken))
+returns c given = let a = c .before .args in sym (coding-early (planned (a .rule) given) (a .k) (c .if1 .taken))
 
 returns-2 : tie.Need-returns-2
 unfolding fixedCoding
-returns-2 c =
+returns-2 c given =
     let e = c .before in
     let a = e .before .args in
     sym (ap (λ (b : Bool). b && eqb (a .k % 32 / 8) (a .rule .to)) (le-leb 64 (a .k) (e .if1 .left)))

@@ -11,11 +11,11 @@ use Rattle.maker.proofs.plan.given_coding.Tie as tie
 
 returns : tie.Need-returns
 unfolding givenCoding
-returns c = let a = c .before .args in sym (ap (λ (b : Bool). b && ltb (a .k - 32) (length (a .set .now) / 16)) (lt-leb 32 (a .k) (c .if1 .taken)))
+returns c rule = let a = c .before .args in sym (ap (λ (b : Bool). b && ltb (a .k - 32) (length (a .set .now) / 16)) (lt-leb 32 (a .k) (c .if1 .taken)))
 
 returns-2 : tie.Need-returns-2
 unfolding givenCoding
-returns-2 c = let a = c .before .args in sym (ap (λ (b : Bool). b && ltb (a .k - 32) (length (a .set .now) / 16)) (le-leb 32 (a .k) (c .if1 .left)))
+returns-2 c rule = let a = c .before .args in sym (ap (λ (b : Bool). b && ltb (a .k - 32) (length (a .set .now) / 16)) (le-leb 32 (a .k) (c .if1 .left)))
 
 pub given-coding-spec : {M : Type 1} → statement M
 given-coding-spec = tie.close (tie.spec returns returns-2)
