@@ -100,14 +100,15 @@ fn word(set: &[u8], w: usize) -> &[u8] {
     &set[WORD * w..][..WORD]
 }
 
-/// Whether each coding of these bytes is a permutation of 0 to 15.
+/// Whether each coding of these bytes is a permutation of 0 to 15 (request 2026-04): one bit is set for each entry
+/// seen, none for one over 15, and the bits are counted.
 fn permute(codings: &[u8]) -> bool {
     codings.chunks_exact(CODING).all(|coding| {
         let seen = coding.iter().fold(0, |seen, &v| match v {
             0..=15 => seen | 1u16 << v,
             _ => seen,
         });
-        seen == u16::MAX
+        seen.count_ones() == 16
     })
 }
 
