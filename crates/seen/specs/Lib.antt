@@ -1,0 +1,2 @@
+pub mod SeenWord
+pub mod Examples
