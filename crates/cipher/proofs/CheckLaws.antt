@@ -1,23 +1,20 @@
 -- Laws for the checks of sets and chains: what a turn of a loop, or a rule that was found broken or kept, says of the tests;
 -- and what the number that a check gives says of the set or the chain.
 use mathlib.Core.Path.{_≡_, refl, sym, ap, _∙_}
-use mathlib.Core.Bool.{Bool, true, false, not, cond, _&&_}
+use mathlib.Core.Bool.{Bool, true, false, cond}
 use mathlib.Core.List.{List, [], _∷_, _++_}
-use Prim.Native.Nat.{ℕ, suc, _+_, _*_, _-_, _≤_, _<_}
-use native.Mathlib.Decide.{ℕ-discrete}
+use Prim.Native.Nat.{ℕ, suc, _+_, _*_, _-_, _<_}
 use native.Mathlib.Omega.{arith}
-use borrow.Author.Tests.{lt-ltb, le-ltb, eq-eqb, ne-eqb}
-use lib.Dec.{ltb, eqb, lit<}
-use lib.ListN.{length, getD, set, take, drop, replicate}
-use lib.Seq.{getD-set-same, getD-set-other}
+use borrow.Author.Tests.{eq-eqb, ne-eqb}
+use lib.Dec.{lit<}
+use lib.ListN.{length, take, drop}
 use Rattle.lists.specs.Every.{every}
 use Rattle.lists.specs.Refusals.{first}
-use Rattle.lists.proofs.EveryLaws.{true-and, every-more, every-not}
+use Rattle.lists.proofs.EveryLaws.{true-and, every-more}
 use Rattle.lists.proofs.RefusalLaws.{Clear}
-use Rattle.lists.proofs.TabulationLaws.{getD-replicate}
 use Rattle.lists.proofs.PartLaws.{part-end}
 use Rattle.cipher.specs.KeySize.{rounds, chainLength}
-use Rattle.cipher.specs.Chain.{ChainBy, LoneSet, isOneToOne, arePermutations, codingRuleHolds, wordKept, wordsKept, maskRuleHolds, setTests, chainTestsBy}
+use Rattle.cipher.specs.Chain.{ChainBy, LoneSet, arePermutations, codingRuleHolds, wordKept, wordsKept, maskRuleHolds, setTests, chainTestsBy}
 use Rattle.cipher.specs.Lengths.{setLength}
 use Rattle.cipher.specs.declared.size.KeySize.{KeySize}
 use Rattle.cipher.proofs.ChainTests.{set-tested, chain-tested}
@@ -26,69 +23,6 @@ use Rattle.cipher.proofs.ChainTests.{set-tested, chain-tested}
 
 pub every-next : (n : ℕ) (p : ℕ → Bool) → every n p ≡ true → p n ≡ true → every (n + 1) p ≡ true
 every-next n p h e = every-more n p ∙ true-and (every n p) (p n) h e
-
-and-false : (a b : Bool) → b ≡ false → a && b ≡ false
-and-false true b e = e
-and-false false b e = refl
-
-and-right : (a b : Bool) → b ≡ true → a ≡ a && b
-and-right true b e = sym e
-and-right false b e = refl
-
--- ---- one coding, by an array of the images seen
-
--- `seen` has a zero exactly where f has no value among its first i
-abbrev pub Marked : (ℕ → ℕ) → ℕ → List ℕ → Type 0
-Marked f i seen = (x : ℕ) → x < 16 → eqb (getD seen x 0) 0 ≡ every i (λ k. not (eqb (f k) x))
-
-module _ (f : ℕ → ℕ) where
-  pub marked-none : Marked f 0 (replicate 16 0)
-  unfolding every
-  marked-none x h = rw (getD-replicate 16 0 x)
-
-  pub one-none : isOneToOne 0 16 f ≡ true
-  unfolding isOneToOne every
-  one-none = refl
-
-  module _ (i x : ℕ) (e : f i ≡ x) where
-    -- an image that is too large
-    pub one-large : (n : ℕ) → i < n → 16 ≤ x → isOneToOne n 16 f ≡ false
-    unfolding isOneToOne
-    one-large n h l =
-        every-not n (λ i. ltb (f i) 16 && every i (λ k. not (eqb (f k) (f i)))) i h
-        (rw (le-ltb (f i) 16 (rw e l)))
-
-    module _ (seen : List ℕ) (m : Marked f i seen) (l : x < 16) where
-      fresh : (b : Bool) → eqb (getD seen x 0) 0 ≡ b → every i (λ k. not (eqb (f k) (f i))) ≡ b
-      fresh b q = ap (λ (y : ℕ). every i (λ k. not (eqb (f k) y))) e ∙ sym (m x l) ∙ q
-
-      -- an image that was seen
-      pub one-twice : (n : ℕ) → i < n → (getD seen x 0 ≡ 0 → ⊥) → isOneToOne n 16 f ≡ false
-      unfolding isOneToOne
-      one-twice n h q =
-          every-not n (λ i. ltb (f i) 16 && every i (λ k. not (eqb (f k) (f i)))) i h
-          (and-false (ltb (f i) 16) (every i (λ k. not (eqb (f k) (f i)))) (fresh false (ne-eqb (getD seen x 0) 0 q)))
-
-      -- a new one, which is then marked
-      pub one-more : getD seen x 0 ≡ 0 → isOneToOne i 16 f ≡ true → isOneToOne (i + 1) 16 f ≡ true
-      unfolding isOneToOne
-      one-more q h =
-          every-next i (λ i. ltb (f i) 16 && every i (λ k. not (eqb (f k) (f i)))) h
-          (true-and (ltb (f i) 16) (every i (λ k. not (eqb (f k) (f i)))) (lt-ltb (f i) 16 (rw e l)) (fresh true (eq-eqb (getD seen x 0) 0 q)))
-
-      pub marked-more : length seen ≡ 16 → Marked f (i + 1) (set seen x 1)
-      marked-more s y h = go (ℕ-discrete y x)
-        where
-          go : Dec (y ≡ x) → eqb (getD (set seen x 1) y 0) 0 ≡ every (i + 1) (λ k. not (eqb (f k) y))
-          go (yes d) =
-              ap (λ (z : ℕ). eqb (getD (set seen x 1) z 0) 0) d
-              ∙ ap (λ (z : ℕ). eqb z 0) (getD-set-same seen x 1 0 (rw s l))
-              ∙ sym (every-not (i + 1) (λ k. not (eqb (f k) y)) i (omega arith) (ap not (eq-eqb (f i) y (e ∙ sym d))))
-          go (no d) =
-              ap (λ (z : ℕ). eqb z 0) (getD-set-other seen x y 1 0 d)
-              ∙ m y h
-              ∙ and-right (every i (λ k. not (eqb (f k) y))) (not (eqb (f i) y)) (ap not (ne-eqb (f i) y (λ z. d (sym z ∙ e))))
-              ∙ sym (every-more i (λ k. not (eqb (f k) y)))
 
 -- ---- a word rule, between parts of a chain as the code lends them
 

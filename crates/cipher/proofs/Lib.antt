@@ -19,6 +19,7 @@ pub mod RoundLaw
 pub mod RoundsLaw
 pub mod FoldLaw
 pub mod ChainTests
+pub mod SeenCounts
 pub mod ChainPartLaws
 pub mod ChainRefusals
 pub mod CheckLaws

@@ -10,6 +10,7 @@ pub mod Coding
 pub mod Images
 pub mod Tables
 pub mod Chain
+pub mod SeenCount
 pub mod ChainParts
 pub mod Book
 pub mod Answers

@@ -11,31 +11,19 @@ ghost use Rattle.cipher.specs.Refusal.{outcomeOf};
 ghost use Rattle.cipher.specs.Coding.{codingAt};
 ghost use Rattle.cipher.specs.Chain as C;
 ghost use Rattle.cipher.specs.Answers.{setChecked, chainChecked};
-use crate::invert::wide;
 use crate::lengths;
 use crate::refusal::Outcome;
 use crate::refusal::Refusal;
 use crate::size::KeySize;
 use crate::size::SizeFound;
+use seen::all_seen;
 
-// Whether coding k of those in s is a permutation: each image is below 16, and none was seen before.
+// Whether coding k of those in s is a permutation: whether all 16 values are seen in it.
 fn is_permutation(s: &[u8], k: usize) -> bool
     requires { ⌜ codingLength * k + codingLength ≤ length (now s) ⌝ }
     ensures { λ r. ⌜ r ≡ C.isOneToOne 16 16 (codingAt (now (s .entry)) k) ⌝ }
 {
-    let at = lengths::CODING * k;
-    let mut seen = [0u8; lengths::VALUES];
-    for v in 0..lengths::VALUES {
-        let image = wide(s[at + v]);
-        if lengths::VALUES <= image {
-            return false;
-        }
-        if seen[image] != 0 {
-            return false;
-        }
-        seen[image] = 1;
-    }
-    true
+    all_seen(s, lengths::CODING * k)
 }
 
 // Whether the first n codings in s are permutations.
