@@ -2,7 +2,9 @@
 // terms). Each rule is tested by a function of its own; the checks ask for the rules in the order of
 // the refusals.
 ghost use mathlib.Core.Path.{_≡_};
+ghost use mathlib.Core.Bool.{_&&_};
 ghost use Prim.Native.Nat.{_+_, _*_, _<_, _≤_};
+ghost use lib.Dec.{eqb};
 ghost use lib.ListN.{length};
 ghost use Rattle.cipher.specs.Lengths.{codingLength, roundCodingsLength, setLength};
 ghost use Rattle.lists.specs.Refusals.{first};
@@ -65,17 +67,31 @@ fn codings_permute(chain: &[u8], r: usize) -> bool
     middles_permute(chain, r)
 }
 
-// Whether word `to` of the set in after is coded as word `from` of the set in before.
+// Whether all bytes so far, and one pair more, are kept.
+fn still_kept(kept: bool, new: u8, old: u8) -> bool
+    ensures { λ r. ⌜ r ≡ kept && eqb new old ⌝ }
+{
+    if new != old {
+        return false;
+    }
+    kept
+}
+
+// Whether word `to` of the set in after is coded as word `from` of the set in before. All bytes are
+// looked at, since that is quicker than to stop at the first that differs.
 pub fn word_kept(before: &[u8], from: usize, after: &[u8], to: usize) -> bool
     requires { ⌜ (from < 4) × (to < 4) × (setLength ≤ length (now before)) × (setLength ≤ length (now after)) ⌝ }
     ensures { λ r. ⌜ r ≡ C.wordKept from to (now (before .entry)) (now (after .entry)) ⌝ }
 {
+    let mut kept = true;
     for k in 0..lengths::WORD {
-        if after[lengths::WORD * to + k] != before[lengths::WORD * from + k] {
-            return false;
-        }
+        kept = still_kept(
+            kept,
+            after[lengths::WORD * to + k],
+            before[lengths::WORD * from + k],
+        );
     }
-    true
+    kept
 }
 
 // Whether the same holds between each set of a chain of r rounds and the next.
