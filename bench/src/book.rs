@@ -48,10 +48,15 @@ pub fn build_reading(size: Size) -> Times {
     given.build(size.reading_bytes(), rattle, reading::build)
 }
 
-pub fn check_chain(size: Size) -> Times {
+/// The check of a chain, beside another version of it.
+pub fn check_chain_beside(size: Size, other: impl Fn(usize, &[u8]) -> bool) -> Times {
     let Given { key, chain } = Given::new(size, chains::valid);
     Times::of(
         || _ = hide(bowlinette::check_chain(hide(key.len()), hide(&chain))),
-        || _ = hide(chain::check(hide(key.len()), hide(&chain)).is_ok()),
+        || _ = hide(other(hide(key.len()), hide(&chain))),
     )
+}
+
+pub fn check_chain(size: Size) -> Times {
+    check_chain_beside(size, |key, chain| chain::check(key, chain).is_ok())
 }

@@ -2,6 +2,7 @@
 //! product does in one table and, with the word `all`, the parts by themselves in a second.
 
 mod archive;
+mod before;
 mod book;
 mod driver;
 mod ink;
@@ -42,6 +43,8 @@ fn product() {
     println!("{:<14}{:>8}{}", "", "message", Size::ALL.map(key).concat());
     row("make_chain", "", |size| maker::make(Kind::Sealing, size));
     row("make_reading", "", |size| maker::make(Kind::Reading, size));
+    row("check_chain", "", book::check_chain);
+    before::print();
     let build = row("build", "", book::build);
     let build_reading = row("build_reading", "", book::build_reading);
     let mut ratios = vec![beside("build_reading : build", &build_reading, &build)];

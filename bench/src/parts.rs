@@ -99,10 +99,7 @@ fn codes(n: usize) {
 pub fn print() {
     println!("\nThe parts by themselves");
     heading("key bytes", ["Rattle", "Rust"]);
-    for size in Size::ALL {
-        cipher(size);
-        row("check chain", size.key_bytes(), book::check_chain(size));
-    }
+    Size::ALL.into_iter().for_each(cipher);
     heading("message", ["Rattle", "Rust"]);
     LENGTHS.into_iter().for_each(codes);
     for (shape, name) in [(Shape::Plain, "plain Rust"), (Shape::Alike, "Rust alike")] {
