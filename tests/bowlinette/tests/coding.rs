@@ -86,12 +86,12 @@ fn on_codings(seed: u64, check: impl Fn(&mut Spoilt)) {
 
 #[test]
 fn every_value_at_every_place() {
-    on_codings(60, Spoilt::every_value);
+    on_codings(60, |spoilt| spoilt.every_value());
 }
 
 #[test]
 fn every_pair_of_repeats() {
-    on_codings(61, Spoilt::every_repeat);
+    on_codings(61, |spoilt| spoilt.every_repeat());
 }
 
 /// Permutations with two entries exchanged, and with up to 16 drawn anew from the bytes below a bound.
