@@ -1,8 +1,8 @@
--- A word in which one bit is set: what its bits are, and how many of them are ones.
+-- A word after one more of its bits is set: what its bits are, and how many of them are ones.
 use mathlib.Core.Path.{_≡_, sym, ap, _∙_}
 use Prim.Native.Nat.{ℕ, suc, _+_, _-_, _*_, _/_, _%_, _^_, _<_, max}
 use native.Mathlib.Omega.{arith}
-use native.Mathlib.Nat.{one-mul, add-zero, div-add-mod', mod-lt, zero-lt-suc, div-eq-of-lt, add-mul-div-right, mul-div-cancel-left, mul-mod-left, pow-suc}
+use native.Mathlib.Nat.{add-comm, one-mul, add-zero, div-add-mod', mod-lt, zero-lt-suc, div-eq-of-lt, add-mul-div-right, mul-div-cancel-left, mul-mod-left, pow-suc}
 use native.Mathlib.Decide.{decLt}
 use lib.Bits.{bitOr, or-step, or-block, or-zero-r, or-shr, or-mod}
 use lib.Count.{ones, ones-step, ones-cat}
@@ -28,15 +28,12 @@ set-cut w x =
     lowest : (a : ℕ) → bitOr a 1 ≡ a / 2 * 2 + 1
     lowest a = or-step a 1 ∙ ap (λ (z : ℕ). z * 2 + max (a % 2) 1) (or-zero-r (a / 2)) ∙ ap (λ (z : ℕ). a / 2 * 2 + z) (top (a % 2) (mod-lt a (zero-lt-suc 1)))
 
-swap : (a b : ℕ) → a + b ≡ b + a
-swap a b = omega arith
-
 -- ---- the count of ones
 
 ones-cut : (w x : ℕ) → ones w ≡ ones (w / 2 ^ x / 2) + bit w x + ones (w % 2 ^ x)
 ones-cut w x =
     ap ones (sym (div-add-mod' w (2 ^ x))) ∙ ones-cat x (w / 2 ^ x) (w % 2 ^ x) (mod-lt w (pow-pos x))
-    ∙ ap (λ (z : ℕ). z + ones (w % 2 ^ x)) (ones-step (w / 2 ^ x) ∙ swap (w / 2 ^ x % 2) (ones (w / 2 ^ x / 2)))
+    ∙ ap (λ (z : ℕ). z + ones (w % 2 ^ x)) (ones-step (w / 2 ^ x) ∙ add-comm (w / 2 ^ x % 2) (ones (w / 2 ^ x / 2)))
 
 -- one more where the bit was clear, as many where it was set
 pub ones-set : (w x : ℕ) → ones (bitOr w (2 ^ x)) + bit w x ≡ ones w + 1
@@ -50,7 +47,7 @@ ones-set w x =
 
 pub bit-set : (w x : ℕ) → bit (bitOr w (2 ^ x)) x ≡ 1
 bit-set w x =
-    ap (λ (z : ℕ). z / 2 ^ x % 2) (set-cut w x ∙ swap ((w / 2 ^ x / 2 * 2 + 1) * 2 ^ x) (w % 2 ^ x))
+    ap (λ (z : ℕ). z / 2 ^ x % 2) (set-cut w x ∙ add-comm ((w / 2 ^ x / 2 * 2 + 1) * 2 ^ x) (w % 2 ^ x))
     ∙ ap (λ (z : ℕ). z % 2) (add-mul-div-right (w % 2 ^ x) (w / 2 ^ x / 2 * 2 + 1) (pow-pos x) ∙ ap (λ (z : ℕ). z + (w / 2 ^ x / 2 * 2 + 1)) (div-eq-of-lt (mod-lt w (pow-pos x))))
     ∙ odd (w / 2 ^ x / 2)
   where

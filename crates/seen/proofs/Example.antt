@@ -8,7 +8,7 @@ use Rattle.seen.specs.SeenWord.{seenWord}
 use Rattle.seen.specs.Examples.{MarkedWords}
 
 pub marked-words : MarkedWords
-unfolding seenWord bitOr
+unfolding seenWord
 marked-words = record {
   bit-0 = refl;
   bit-15 = refl;

@@ -3,26 +3,19 @@
 use mathlib.Core.Path.{_≡_, refl, sym, ap, _∙_}
 use mathlib.Core.Bool.{Bool, true, false, not, cond, _&&_, and-true, and-false}
 use Prim.Native.Nat.{ℕ, zero, suc, _+_, _*_, _/_, _%_, _^_, _≤_, _<_, zero-le}
-use native.Mathlib.Nat.{zero-div, suc-inj, mod-eq-of-lt}
+use native.Mathlib.Nat.{zero-div, mod-eq-of-lt}
 use native.Mathlib.Numerals.{add-one}
 use native.Mathlib.Decide.{decLt, ℕ-discrete}
 use native.Mathlib.Omega.{arith}
 use borrow.Author.Tests.{lt-ltb, le-ltb, ltb-true, ltb-false, eqb-true, eqb-false, eq-eqb, ne-eqb}
 use lib.Bits.{bitOr, or-zero-r}
 use lib.Count.{ones}
-use lib.Dec.{ltb, eqb}
+use lib.Dec.{ltb, eqb, eqb·suc-suc}
 use lib.Pow.{pow-add}
 use Rattle.lists.specs.Every.{every}
 use Rattle.lists.proofs.EveryLaws.{true-and}
 use Rattle.seen.specs.SeenWord.{bitOf, seenWord}
 use Rattle.seen.proofs.BitLaws.{bit, ones-set, bit-set, bit-other}
-
-eqb-suc : (a b : ℕ) → eqb (suc a) (suc b) ≡ eqb a b
-eqb-suc a b = go (eqb a b) refl
-  where
-    go : (t : Bool) → eqb a b ≡ t → eqb (suc a) (suc b) ≡ t
-    go true e = eq-eqb (suc a) (suc b) (ap suc (eqb-true a b e))
-    go false e = ne-eqb (suc a) (suc b) (λ z. eqb-false a b e (suc-inj z))
 
 -- the two halves of a word of 16 bits: bit x is bit x mod 8 of the half x / 8
 pub halves : (x : ℕ) → cond (eqb (x / 8) 0) (2 ^ (x % 8)) 0 + 256 * cond (eqb (x / 8) 1) (2 ^ (x % 8)) 0 ≡ bitOf 16 x
@@ -109,7 +102,7 @@ module _ (m : ℕ) (f : ℕ → ℕ) where
       go true e true d =
           let z = eqb-true (bit w (f n)) 0 d in
           let u : ones (bitOr w (2 ^ f n)) ≡ suc (ones w) = omega (arith, ones-set w (f n)) in
-          ap (λ (a : ℕ). eqb a (suc n)) u ∙ eqb-suc (ones w) n
+          ap (λ (a : ℕ). eqb a (suc n)) u ∙ eqb·suc-suc (ones w) n
           ∙ sym (ap (λ (b : Bool). eqb (ones w) n && b) (true-and (ltb (f n) m) fresh e (known e d)) ∙ and-true (eqb (ones w) n))
       go true e false d =
           let z = eqb-false (bit w (f n)) 0 d in
