@@ -1,5 +1,5 @@
 //! The proved library beside an earlier build of itself, in one process: `bench/run before LIBRARY` links
-//! that one under other names. Without it there is nothing to print.
+//! that one's check of a chain under another name. Without it there is nothing to print.
 
 /// The check of a chain: its time, and its ratio to the time before.
 #[cfg(before)]

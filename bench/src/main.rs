@@ -1,5 +1,6 @@
 //! Times the proved library and a Rust version of it in one process and prints how they compare: what the
-//! product does in one table and, with the word `all`, the parts by themselves in a second.
+//! product does in one table and, with the word `all`, the parts by themselves in a second. Where an earlier
+//! library is linked too (bench/run), a row of the first table is beside that one.
 
 mod archive;
 mod before;

@@ -2,7 +2,7 @@
 
 use crate::driver::{self, Shape};
 use crate::timing::{shown, Times};
-use crate::{book, stack, LENGTHS};
+use crate::{stack, LENGTHS};
 use reference::{lea, pad, Size};
 use shared::{chains, Random};
 use std::hint::black_box as hide;
