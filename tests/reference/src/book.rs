@@ -1,11 +1,13 @@
-//! Books (01, "Book"): every table, from codings inverted beforehand.
+//! Books (01, "Book"; request 2026-05): the key length, and every table, from codings inverted beforehand.
 
 use crate::chain::{self, Chain, CODING, MIDDLES, SET};
 use crate::lea::{self, Block, Row};
 use crate::refusal;
 use crate::Size;
 
-/// The start, a fold table and a group of them, an add table, a turn table, the tables of a round.
+/// The byte in front, the start, a fold table and a group of them, an add table, a turn table, the tables
+/// of a round.
+pub const FRONT: usize = 1;
 pub const START: usize = 16;
 pub const FOLD: usize = 256;
 pub const GROUP: usize = 32 * FOLD;
@@ -196,8 +198,10 @@ pub fn build(key: &[u8], chain: &[u8], out: &mut [u8]) -> Result<(), u32> {
     let mut rows = lea::EMPTY;
     let chain = chain::check(key.len(), chain)?;
     let size = lea::schedule(key, &mut rows)?;
-    let (start, rest) = room(out, size.book_bytes())?.split_at_mut(START);
+    let (front, rest) = room(out, size.book_bytes())?.split_at_mut(FRONT);
+    let (start, rest) = rest.split_at_mut(START);
     let (folds, rounds) = rest.split_at_mut(3 * GROUP);
+    front[0] = size.key_bytes() as u8;
     start.copy_from_slice(&chain::code(chain.set(size.rounds()), &[0; 16]));
     let zero = lea::block(lea::enciphered(&rows[..size.rounds()], [0; 4]));
     groups(chain, [[0; 16], double(zero), double(double(zero))], folds);

@@ -1,7 +1,8 @@
 //! The driver (01, "Pad, driver, archive"): rounds, sealing and the tag session from a book of any
-//! bytes. Of an add table's entry it uses the bits 0 to 4, of any other entry the bits 0 to 3.
+//! bytes, but for the first. Of an add table's entry it uses the bits 0 to 4, of any other entry the bits
+//! 0 to 3.
 
-use crate::book::{ADD, FOLD, GROUP, ROUND, START, TURN, TURNED};
+use crate::book::{ADD, FOLD, FRONT, GROUP, ROUND, START, TURN, TURNED};
 use crate::chain::MIDDLES;
 use crate::lea::{whole, Block};
 use crate::refusal;
@@ -76,7 +77,7 @@ pub fn fold(group: &[u8], text: &Halves, message: &Halves) -> Halves {
     })
 }
 
-/// The parts of a book.
+/// The parts of a book behind its first byte.
 #[derive(Clone, Copy)]
 struct Book<'a> {
     start: &'a [u8],
@@ -85,13 +86,17 @@ struct Book<'a> {
 }
 
 impl<'a> Book<'a> {
-    /// Refuses a length that is none of the three.
+    /// Refuses a length that is none of the three, then a first byte that does not belong to the length
+    /// (request 2026-05).
     #[inline]
     fn new(bytes: &'a [u8]) -> Result<Book<'a>, u32> {
-        if !Size::ALL.iter().any(|s| s.book_bytes() == bytes.len()) {
-            return Err(refusal::BOOK_LENGTH);
+        let found = Size::ALL.iter().find(|s| s.book_bytes() == bytes.len());
+        let size = found.ok_or(refusal::BOOK_LENGTH)?;
+        let (front, rest) = bytes.split_at(FRONT);
+        if usize::from(front[0]) != size.key_bytes() {
+            return Err(refusal::SIZE_BYTE);
         }
-        let (start, rest) = bytes.split_at(START);
+        let (start, rest) = rest.split_at(START);
         let (groups, rounds) = rest.split_at(3 * GROUP);
         Ok(Book {
             start,

@@ -48,10 +48,10 @@ impl Size {
         1024 + 920 * self.rounds()
     }
 
-    /// A book in bytes (01, "Book").
+    /// A book in bytes (01, "Book"), one of them in front to state its key length (request 2026-05).
     #[inline]
     pub fn book_bytes(self) -> usize {
-        24_592 + 18_432 * self.rounds()
+        1 + 24_592 + 18_432 * self.rounds()
     }
 
     /// A reading book in bytes (request 2026-01).

@@ -3,7 +3,7 @@
 
 mod given;
 
-use given::{block, built, numbers, xor};
+use given::{block, built, numbers, opened, xor};
 use reference::chain::{self, check_reading, decode, decode_all, Chain, CODING, SET, WORD};
 use reference::driver::{self, halves};
 use reference::lea::{self, Block};
@@ -75,12 +75,6 @@ fn reading_rounds_undo_rounds_of_the_cipher() {
             }
         }
     });
-}
-
-/// What a half byte decodes to by coding k of those in a row.
-fn opened(codings: &[u8], k: usize, half: usize) -> usize {
-    let coding = &codings[CODING * k..][..CODING];
-    coding.iter().position(|&x| usize::from(x) == half).unwrap()
 }
 
 /// Entry 16p + q of turn table (i, j) of reading round l, word for word.
@@ -185,6 +179,26 @@ fn any_blocks_are_read() {
             before = text;
         }
         assert_eq!(given.read(&iv, &sealed.concat()), due, "{:?}", given.size);
+    });
+}
+
+/// No byte in front states the key length: the book has the lengths of request 2026-01, and any first byte.
+#[test]
+fn first_bytes() {
+    on_each(10, |mut given, _| {
+        let length = match given.size {
+            Size::Lea128 => 450_560,
+            Size::Lea192 => 524_288,
+            Size::Lea256 => 598_016,
+        };
+        assert_eq!(given.reading.len(), length, "{:?}", given.size);
+        let read = |book: &[u8]| reading::read(book, &[0; 16], &[0; 16], &mut [0; 16]);
+        for byte in 0..=255 {
+            given.reading[0] = byte;
+            assert_eq!(read(&given.reading), Ok(16), "{:?}, {byte}", given.size);
+        }
+        let stated = [&[given.key.len() as u8][..], &given.reading].concat();
+        assert_eq!(read(&stated), Err(6), "{:?}", given.size);
     });
 }
 

@@ -1,5 +1,6 @@
 //! What the tests of the reference draw from.
 
+use reference::chain::CODING;
 use reference::lea::Block;
 use reference::{book, chain, Size};
 
@@ -19,6 +20,12 @@ pub fn block(below: &mut impl FnMut(usize) -> usize) -> Block {
 
 pub fn xor(a: Block, b: Block) -> Block {
     std::array::from_fn(|k| a[k] ^ b[k])
+}
+
+/// What a half byte decodes to by coding k of those in a row.
+pub fn opened(codings: &[u8], k: usize, half: usize) -> usize {
+    let coding = &codings[CODING * k..][..CODING];
+    coding.iter().position(|&x| usize::from(x) == half).unwrap()
 }
 
 /// A key, a chain and their book.
