@@ -1,4 +1,4 @@
--- What the builder answers (document 01, "Book" and "Refusals from the input"): the number of a refusal and the buffer as it
+-- What the builder answers (document 01, "Book" and "Refusals from the input"; 02, 2026-05): the number of a refusal and the buffer as it
 -- was, or 0 and what was asked for, then what the buffer held before.
 use mathlib.Core.Bool.{Bool}
 use mathlib.Core.List.{List, _++_}
@@ -8,7 +8,7 @@ use Rattle.lists.specs.Refusals.{first}
 use Rattle.cipher.specs.KeySize.{rounds, bookLength}
 use Rattle.cipher.specs.Lea.{keyRows}
 use Rattle.cipher.specs.Chain.{chainTestsBy}
-use Rattle.cipher.specs.Book.{bookOf, bookRound}
+use Rattle.cipher.specs.Book.{wholeBook, bookRound}
 use Rattle.cipher.specs.Lengths.{roundLength}
 use Rattle.cipher.specs.Answers.{keyTests, keySize, roomTests}
 use Rattle.cipher.specs.declared.size.KeySize.{KeySize}
@@ -29,7 +29,7 @@ builtInto from to key ch out len part =
 
 -- the book
 abbrev pub buildAnswer : List ℕ → List ℕ → List ℕ → ℕ × List ℕ
-buildAnswer key ch out = builtInto 0 3 key ch out bookLength (λ z. bookOf (rounds z) (keyRows z key) ch)
+buildAnswer key ch out = builtInto 0 3 key ch out bookLength (λ z. wholeBook z (keyRows z key) ch)
 
 -- the tables of round l mod r
 abbrev pub buildRoundAnswer : List ℕ → List ℕ → ℕ → List ℕ → ℕ × List ℕ

@@ -1,8 +1,10 @@
-// Building a book, or the tables of one round of it, from a key and a chain (document 01, "Book").
-// Refusals 1 to 5 are those of key and chain; 9 is a buffer shorter than what is written.
+// Building a book, or the tables of one round of it, from a key and a chain (document 01, "Book"; 02,
+// 2026-05). Refusals 1 to 5 are those of key and chain; 9 is a buffer shorter than what is written.
 ghost use mathlib.Core.Path.{_≡_};
+ghost use Prim.Native.Nat.{_+_, _*_};
 ghost use lib.ListN.{length};
 ghost use Rattle.cipher.specs.KeySize as S;
+ghost use Rattle.cipher.specs.Lengths.{roundLength, roundsStart};
 ghost use Rattle.cipher.specs.Refusal.{outcomeOf};
 ghost use Rattle.cipher.specs.Chain.{Chain};
 ghost use Rattle.cipher.specs.Book.{bookOf};
@@ -20,14 +22,14 @@ use cipher::schedule::key_rows;
 use cipher::size::KeySize;
 use cipher::size::SizeFound;
 
-// The book of a valid chain, into a buffer of its length.
+// The body of the book of a valid chain, into a buffer of its length.
 fn fill(size: KeySize, chain: &[u8], rows: [[u32; 6]; 32], out: &mut [u8])
-    requires { ⌜ Chain size (now chain) × (length (now out) ≡ S.bookLength size) ⌝ }
+    requires { ⌜ Chain size (now chain) × (length (now out) ≡ roundsStart + roundLength * S.rounds size) ⌝ }
     ensures { λ _. ⌜ now (out .exit) ≡ bookOf (S.rounds size) rows (now (chain .entry)) ⌝ }
 {
     let last = lengths::SET * (size.rounds() + 1);
     let keys = subkeys(rows, size);
-    let end = size.book_len();
+    let end = size.book_len() - lengths::BODY;
     start(&chain[last..], &mut out[0..lengths::START]);
     groups(
         &chain[last..],
@@ -39,7 +41,7 @@ fn fill(size: KeySize, chain: &[u8], rows: [[u32; 6]; 32], out: &mut [u8])
     round_parts(size, chain, rows, &mut out[lengths::ROUNDS..end]);
 }
 
-// The book of a key and a chain, into the front of out.
+// The book of a key and a chain, into the front of out: the key's length, then the body.
 pub fn build(key: &[u8], chain: &[u8], out: &mut [u8]) -> Outcome
     ensures { λ r. ⌜ (outcomeOf r, now (out .exit)) ≡ buildAnswer (now (key .entry)) (now (chain .entry)) (now (out .entry)) ⌝ }
 {
@@ -55,7 +57,8 @@ pub fn build(key: &[u8], chain: &[u8], out: &mut [u8]) -> Outcome
         return Outcome::Refused(Refusal::ShortBuffer);
     }
     let rows = key_rows(size, key);
-    fill(size, chain, rows, &mut out[0..end]);
+    out[0] = size.key_len() as u8;
+    fill(size, chain, rows, &mut out[lengths::BODY..end]);
     Outcome::Done
 }
 

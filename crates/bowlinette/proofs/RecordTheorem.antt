@@ -5,8 +5,6 @@ use mathlib.Core.List.{List}
 use Prim.Native.Nat.{ℕ, zero, suc}
 use native.Mathlib.Omega.{arith}
 use Rattle.cipher.specs.Book.{bookBody, startOf}
-use Rattle.cipher.specs.Lea.{keyRows}
-use Rattle.cipher.specs.Answers.{keySize}
 use Rattle.driver.specs.Driver.{fresh, spent, beginAnswer, blockAnswer, lastAnswer}
 use Rattle.driver.specs.declared.session.Session.{Session}
 use Rattle.driver.proofs.AnswerLaws.{begin-done, over-done}
@@ -14,8 +12,7 @@ use Rattle.driver.proofs.SessionLaws.{Fits, fresh-fits, block-kept, last-kept}
 use Rattle.claims.specs.Model.{Call, Answer, accepted, tag}
 use Rattle.claims.specs.Calls.{answerOf, driverCall, Lent, none, then}
 use Rattle.claims.specs.Built.{Built, bookIn}
-use Rattle.claims.proofs.BuiltLaws.{built-book}
-use Rattle.claims.proofs.BookPasses.{book-found}
+use Rattle.claims.proofs.BuiltLaws.{built-found}
 use Rattle.claims.proofs.LentTheorem.{lent-built}
 use Rattle.bowlinette.specs.Into.{into}
 use Rattle.bowlinette.specs.Session.{sessionIn, recordOf, recorded, tagRecorded}
@@ -64,7 +61,7 @@ pub record-built : (key ch out held : List ℕ) → Built key ch out held → (b
 unfolding beginAnswer
 record-built key ch out held h b₀ b q e =
     let bk = bookIn key held in
-    let known = book-found (keySize key) (keyRows (keySize key) key) ch bk (built-book key ch out held h) in
+    let known = built-found key ch out held h in
     let s = fresh (startOf (bookBody bk)) in
     let begun = e ∙ ap (λ (a : ℕ × Session). into (recorded a) b₀) (begin-done bk _ known) in
     let lent = lent-built key ch out held h spent s 0 (sym (over-done bk spent _ known)) in (

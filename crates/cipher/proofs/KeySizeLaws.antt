@@ -1,4 +1,4 @@
--- Laws of the key sizes: the rounds are a multiple of four and at most 32; a length tells its size, and a size its length.
+-- Laws of the key sizes: rounds and bytes of a key are at most 32, the rounds a multiple of four; a length tells its size, and a size its length.
 use mathlib.Core.Path.{_≡_, refl, _∙_}
 use mathlib.Core.Bool.{Bool, true, false, cond, not, _||_}
 use Prim.Native.Nat.{ℕ, _*_, _/_, _≤_}
@@ -24,6 +24,11 @@ pub rounds-fours : (z : KeySize) → 4 * (rounds z / 4) ≡ rounds z
 rounds-fours Bytes16 = refl
 rounds-fours Bytes24 = refl
 rounds-fours Bytes32 = refl
+
+pub key-le : (z : KeySize) → keyLength z ≤ 32
+key-le Bytes16 = lit≤ tt
+key-le Bytes24 = lit≤ tt
+key-le Bytes32 = lit≤ tt
 
 -- the four answers of a length, by the tests that the code makes
 module _ (len : KeySize → ℕ) (n : ℕ) where

@@ -1,17 +1,20 @@
 -- The book (01's term) of tables that rows of round keys and a chain make, and where each part of it stands (document 01,
--- "Book"). All is said of any rows and any number r of rounds.
+-- "Book"), with the byte in front that states the length of the key (document 02, 2026-05). All is said of any rows, and of a
+-- book's body, which is document 01's book, for any number r of rounds.
 use mathlib.Core.Path.{_≡_}
-use mathlib.Core.List.{List, [], _++_}
+use mathlib.Core.List.{List, [], _∷_, _++_}
 use Prim.Native.Nat.{ℕ, zero, suc, _+_, _*_, _<_}
 use lib.ListN.{length, getD, take, drop}
 use Rattle.lists.specs.Tabulation.{chunks, tables}
 use Rattle.lists.specs.Blocks.{zeros}
 use Rattle.cipher.specs.Lengths.{addLength, turnLength, foldLength, bodyStart, startLength, groupLength, roundLength, roundsStart}
+use Rattle.cipher.specs.KeySize.{keyLength, rounds}
 use Rattle.cipher.specs.Lea.{firstRounds}
 use Rattle.cipher.specs.Cmac.{subkey1, subkey2}
 use Rattle.cipher.specs.Coding.{Set, coded}
 use Rattle.cipher.specs.Tables.{RoundCodings, RoundTables, FoldTables, addTable, turnTable, foldTable}
 use Rattle.cipher.specs.Chain.{messageSet, chainSet, roundCodings}
+use Rattle.cipher.specs.declared.size.KeySize.{KeySize}
 
 -- ---- the parts
 
@@ -46,12 +49,17 @@ bookRound r rows ch l = roundPart (roundCodings r ch l) (getD rows l [])
 
 -- ---- the book
 
+-- its body
 unfoldable pub bookOf : ℕ → List (List ℕ) → List ℕ → List ℕ
 bookOf r rows ch = startPart r ch ++ (chunks 3 (bookGroup r rows ch) ++ chunks r (bookRound r rows ch))
 
+-- and all of it: the length of the key in one byte, and the body
+abbrev pub wholeBook : KeySize → List (List ℕ) → List ℕ → List ℕ
+wholeBook z rows ch = keyLength z ∷ bookOf (rounds z) rows ch
+
 -- ---- where the parts stand
 
--- the body of a book, in which all its parts stand: the whole of it
+-- the body of a book, in which all its parts stand: all but its first byte
 abbrev pub bookBody : List ℕ → List ℕ
 bookBody bk = drop bodyStart bk
 

@@ -1,5 +1,5 @@
 -- The three key sizes, with the numbers that document 01 gives for each: rounds ("LEA"), the length of a chain ("Chain of
--- codings") and of a book ("Book"). Chain and book are 01's terms.
+-- codings") and of a book ("Book"), which document 02 (2026-05) makes one byte longer. Chain and book are 01's terms.
 use mathlib.Core.Bool.{cond}
 use Prim.Native.Nat.{ℕ, _+_, _*_}
 use lib.Dec.{eqb}
@@ -22,7 +22,7 @@ abbrev pub chainLength : KeySize → ℕ
 chainLength z = 1024 + 920 * rounds z
 
 abbrev pub bookLength : KeySize → ℕ
-bookLength z = 24592 + 18432 * rounds z
+bookLength z = 24593 + 18432 * rounds z
 
 -- the size whose length, by `len`, is n
 unfoldable pub sizeBy : (KeySize → ℕ) → ℕ → SizeFound

@@ -43,9 +43,9 @@ addsLength = 12288
 abbrev pub roundLength : ℕ
 roundLength = 18432
 
--- the offset of a book's body, in which all its parts stand
+-- the offset of a book's body, in which all its parts stand: after the byte that states the key's length
 abbrev pub bodyStart : ℕ
-bodyStart = 0
+bodyStart = 1
 
 -- in the body the start, a group of fold tables, and the offset of the first round
 abbrev pub startLength : ℕ

@@ -39,8 +39,9 @@ pub const TURN: usize = 256;
 
 pub const FOLD: usize = 256;
 
-// Where the body of a book (01's term) begins, in which all its parts stand.
-pub const BODY: usize = 0;
+// Where the body of a book (01's term) begins, in which all its parts stand: after the byte that states
+// the key's length (document 02, 2026-05).
+pub const BODY: usize = 1;
 
 // The start of a book's body, one of its three groups of fold tables, and where its rounds begin.
 pub const START: usize = 16;

@@ -19,6 +19,7 @@ pub enum Refusal {
     BadRecord,
     RecordLength,
     ShortRandom,
+    SizeByte,
 }
 
 // The outcome of an operation that gives nothing else.
@@ -54,6 +55,7 @@ impl Refusal {
             Refusal::BadRecord => 30,
             Refusal::RecordLength => 31,
             Refusal::ShortRandom => 32,
+            Refusal::SizeByte => 33,
         }
     }
 }

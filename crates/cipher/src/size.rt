@@ -46,7 +46,7 @@ impl KeySize {
     pub fn book_len(self) -> usize
         ensures { λ r. ⌜ r ≡ S.bookLength self ⌝ }
     {
-        lengths::ROUNDS + lengths::ROUND_TABLES * self.rounds()
+        lengths::BODY + (lengths::ROUNDS + lengths::ROUND_TABLES * self.rounds())
     }
 
     // The size of a key of n bytes.

@@ -1,5 +1,4 @@
--- What a fold and all rounds by a book's body are, decoded, and that a book with such a body is admitted; for any rows of round
--- keys, and any valid chain.
+-- What a fold and all rounds by a book's body are, decoded; for any rows of round keys, and any valid chain.
 use mathlib.Core.Path.{_≡_, ap, _∙_}
 use mathlib.Core.List.{List}
 use Prim.Native.Nat.{ℕ, _<_}
@@ -11,21 +10,16 @@ use Rattle.cipher.specs.KeySize.{rounds}
 use Rattle.cipher.specs.Lea.{firstRounds}
 use Rattle.cipher.specs.Coding.{Set, Permutations, decoded}
 use Rattle.cipher.specs.Chain.{messageSet, chainSet, Chain}
-use Rattle.cipher.specs.Book.{bookBody, groupKey, Book}
+use Rattle.cipher.specs.Book.{groupKey, Book}
 use Rattle.cipher.specs.declared.size.KeySize.{KeySize}
-use Rattle.cipher.specs.declared.size.SizeFound.the-variants.{Found}
 use Rattle.cipher.proofs.CodingLaws.{block-decoded}
 use Rattle.cipher.proofs.BookMeaning.{book-through}
-use Rattle.driver.specs.Driver.{admitAnswer, pass}
+use Rattle.driver.specs.Driver.{pass}
 use Rattle.driver.proofs.PassLaws.{rounds-known}
-use Rattle.driver.proofs.AdmitLaws.{length-admitted}
 
 -- set r
 pub last-permutes : (z : KeySize) (ch : List ℕ) → Chain z ch → Permutations (chainSet ch (rounds z))
 last-permutes z ch v = v .codings .sets (rounds z) (le-refl (rounds z))
-
-pub book-found : (z : KeySize) (rows : List (List ℕ)) (ch bk : List ℕ) → Book (rounds z) rows ch (bookBody bk) → admitAnswer bk ≡ (0, Found z)
-book-found z rows ch bk h = length-admitted bk z (h .size)
 
 module _ (z : KeySize) (rows : List (List ℕ)) (ch bk : List ℕ) (v : Chain z ch) (h : Book (rounds z) rows ch bk) where
   abbrev E : List ℕ → List ℕ

@@ -6,14 +6,14 @@ use mathlib.Core.List.{List, [], _∷_, _++_}
 use Prim.Native.Nat.{ℕ, _≤_}
 use native.Mathlib.Omega.{arith}
 use lib.Dec.{eqb, lit<}
-use lib.ListN.{length, take, drop}
+use lib.ListN.{length, getD, take, drop}
 use lib.Seq.{take-at}
 use Rattle.lists.specs.Refusals.{first}
 use Rattle.lists.proofs.RefusalLaws.{Clear}
 use Rattle.cipher.specs.Lea.{keyRows}
 use Rattle.cipher.specs.KeySize.{rounds, bookLength, sizeBy, sizeOfKey}
 use Rattle.cipher.specs.Chain.{ChainBy, Chain, chainTestsBy}
-use Rattle.cipher.specs.Book.{bookOf, Book}
+use Rattle.cipher.specs.Book.{bookOf, wholeBook, bookBody, Book}
 use Rattle.cipher.specs.Answers.{keyLengthSize, keySize, roomTests}
 use Rattle.cipher.specs.declared.size.KeySize.{KeySize}
 use Rattle.cipher.specs.declared.size.SizeFound.the-variants.{Found, Unknown}
@@ -21,6 +21,8 @@ use Rattle.cipher.specs.declared.size.KeySize.the-variants.{Bytes16, Bytes24, B
 use Rattle.cipher.proofs.CheckLaws.{Numbered}
 use Rattle.cipher.proofs.ChainTests.{chain-tested}
 use Rattle.cipher.proofs.BookLaw.{book-size, book-made}
+use Rattle.driver.specs.Driver.{admitAnswer}
+use Rattle.driver.proofs.AdmitLaws.{book-admitted}
 use Rattle.book.specs.Answers.{buildTestsBy, builtInto}
 use Rattle.book.proofs.AnswerLaws.{built-done}
 use Rattle.reading.specs.Chain.{ReadingChain}
@@ -32,9 +34,9 @@ use Rattle.claims.specs.Review.{ReadingBuilt, readingBookIn}
 -- ---- a valid chain and a key of its size give a book, a valid reading chain a reading book, in every buffer that has room for it
 
 pub any-built : (z : KeySize) (key ch out : List ℕ) → sizeOfKey (length key) ≡ Found z → Chain z ch → bookLength z ≤ length out
-    → Built key ch out (bookOf (rounds z) (keyRows z key) ch ++ drop (bookLength z) out)
+    → Built key ch out (wholeBook z (keyRows z key) ch ++ drop (bookLength z) out)
 any-built z key ch out e v h =
-    sym (built-done 0 3 key ch out bookLength (λ y. bookOf (rounds y) (keyRows y key) ch) z e v h (bookOf (rounds z) (keyRows z key) ch) refl)
+    sym (built-done 0 3 key ch out bookLength (λ y. wholeBook y (keyRows y key) ch) z e v h (wholeBook z (keyRows z key) ch) refl)
 
 pub any-reading-built : (z : KeySize) (key ch out : List ℕ) → sizeOfKey (length key) ≡ Found z → ReadingChain z ch → readingBookLength z ≤ length out
     → ReadingBuilt key ch out (readingBookOf (rounds z) (keyRows z key) ch ++ drop (readingBookLength z) out)
@@ -97,9 +99,12 @@ module _ (from to : ℕ) (key ch out held : List ℕ) (len : KeySize → ℕ) (p
       ap (take (len (keySize key))) (sym (parts .1)) ∙ take-at (part (keySize key)) (drop (len (keySize key)) out) (len (keySize key)) e
 
 -- a book
+pub whole-length : (z : KeySize) (rows : List (List ℕ)) (ch : List ℕ) → length (wholeBook z rows ch) ≡ bookLength z
+whole-length z rows ch = omega (arith, book-size (rounds z) rows ch)
+
 module _ (key ch out held : List ℕ) (built : Built key ch out held) where
   abbrev bookFor : KeySize → List ℕ
-  bookFor z = bookOf (rounds z) (keyRows z key) ch
+  bookFor z = wholeBook z (keyRows z key) ch
 
   pub built-size : sizeOfKey (length key) ≡ Found (keySize key)
   built-size = into-size 0 3 key ch out held bookLength bookFor built
@@ -107,11 +112,20 @@ module _ (key ch out held : List ℕ) (built : Built key ch out held) where
   pub built-chain : Chain (keySize key) ch
   built-chain = into-chain 0 3 key ch out held bookLength bookFor built
 
-  pub built-is : bookIn key held ≡ bookOf (keyRounds key) (keyRows (keySize key) key) ch
-  built-is = into-front 0 3 key ch out held bookLength bookFor built (book-size (keyRounds key) (keyRows (keySize key) key) ch)
+  pub built-is : bookIn key held ≡ wholeBook (keySize key) (keyRows (keySize key) key) ch
+  built-is = into-front 0 3 key ch out held bookLength bookFor built (whole-length (keySize key) (keyRows (keySize key) key) ch)
 
-  pub built-book : Book (keyRounds key) (keyRows (keySize key) key) ch (bookIn key held)
-  built-book = subst (λ (b : List ℕ). Book (keyRounds key) (keyRows (keySize key) key) ch b) (sym built-is) (book-made (keyRounds key) (keyRows (keySize key) key) ch)
+  pub built-body : bookBody (bookIn key held) ≡ bookOf (keyRounds key) (keyRows (keySize key) key) ch
+  built-body = ap bookBody built-is
+
+  pub built-book : Book (keyRounds key) (keyRows (keySize key) key) ch (bookBody (bookIn key held))
+  built-book = subst (λ (b : List ℕ). Book (keyRounds key) (keyRows (keySize key) key) ch b) (sym built-body) (book-made (keyRounds key) (keyRows (keySize key) key) ch)
+
+  -- it is admitted
+  pub built-found : admitAnswer (bookIn key held) ≡ (0, Found (keySize key))
+  built-found =
+      book-admitted (bookIn key held) (keySize key) (ap length built-is ∙ whole-length (keySize key) (keyRows (keySize key) key) ch)
+      (ap (λ (b : List ℕ). getD b 0 0) built-is)
 
 -- a reading book
 module _ (key ch out held : List ℕ) (built : ReadingBuilt key ch out held) where

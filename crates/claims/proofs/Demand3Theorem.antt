@@ -4,9 +4,9 @@ use mathlib.Core.List.{List, _++_}
 use Prim.Native.Nat.{ℕ}
 use lib.ListN.{drop}
 use Rattle.lists.specs.Blocks.{Bytes}
-use Rattle.cipher.specs.KeySize.{rounds, bookLength}
+use Rattle.cipher.specs.KeySize.{bookLength}
 use Rattle.cipher.specs.Lea.{keyRows}
-use Rattle.cipher.specs.Book.{bookOf}
+use Rattle.cipher.specs.Book.{wholeBook}
 use Rattle.claims.specs.Built.{Built, bookIn}
 use Rattle.claims.specs.Demand3.{Demand3, Demand3ForAll}
 use Rattle.claims.proofs.BuiltLaws.{built-chain, any-built}
@@ -30,6 +30,6 @@ demand3 key ch out held hk b = record {
 
 pub demand3-for-all : Demand3ForAll
 demand3-for-all z key ch out e hk v room =
-    let held = bookOf (rounds z) (keyRows z key) ch ++ drop (bookLength z) out in
+    let held = wholeBook z (keyRows z key) ch ++ drop (bookLength z) out in
     let b : Built key ch out held = any-built z key ch out e v room in
     record { held = held; built = b; holds = demand3 key ch out held hk b }

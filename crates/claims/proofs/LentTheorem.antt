@@ -3,8 +3,6 @@
 use mathlib.Core.Path.{_≡_, refl, sym, ap, _∙_}
 use mathlib.Core.List.{List, _∷_}
 use Prim.Native.Nat.{ℕ}
-use Rattle.cipher.specs.Lea.{keyRows}
-use Rattle.cipher.specs.Answers.{keySize}
 use Rattle.driver.specs.Driver.{begunOver}
 use Rattle.driver.specs.declared.session.Session.{Session}
 use Rattle.driver.proofs.AnswerLaws.{over-done, begin-done}
@@ -12,8 +10,7 @@ use Rattle.claims.specs.Model.{Call, Answer}
 use Rattle.claims.specs.Calls.{driverCall, run, driverAnswers, Lent, none, then}
 use Rattle.claims.specs.Built.{Built, bookIn}
 use Rattle.claims.specs.Demand3.{LentLikeModel}
-use Rattle.claims.proofs.BuiltLaws.{built-book}
-use Rattle.claims.proofs.BookPasses.{book-found}
+use Rattle.claims.proofs.BuiltLaws.{built-found}
 use Rattle.claims.proofs.SessionTheorem.{session-built}
 
 -- what lent calls answer is what the list of calls answers
@@ -27,7 +24,7 @@ pub lent-built : (key ch out held : List ℕ) → Built key ch out held → (s�
 unfolding driverAnswers
 lent-built key ch out held b s₀ s q e =
     let bk = bookIn key held in
-    let known = book-found (keySize key) (keyRows (keySize key) key) ch bk (built-book key ch out held b) in
+    let known = built-found key ch out held b in
     let fresh = e ∙ over-done bk s₀ _ known in (
       ap (λ (r : ℕ × Session). r .0) fresh,
       λ cs rs l. lent-run bk l ∙ ap (λ (r : ℕ × Session). run (driverCall bk) cs (r .1)) (fresh ∙ sym (begin-done bk _ known)) ∙ session-built key ch out held b cs,

@@ -16,7 +16,7 @@ use Rattle.cipher.specs.KeySize.{rounds, bookLength, sizeOfKey}
 use Rattle.cipher.specs.Lea.{keyRows}
 use Rattle.cipher.specs.Coding.{Permutation}
 use Rattle.cipher.specs.Chain.{messageSet, chainSet, middleSet, maskAt, ChainBy, Chain}
-use Rattle.cipher.specs.Book.{bookOf}
+use Rattle.cipher.specs.Book.{wholeBook}
 use Rattle.cipher.specs.Lengths.{setLength, longestMessage}
 use Rattle.cipher.specs.Answers.{keySize}
 use Rattle.cipher.proofs.KeySizeLaws.{rounds-fours}
@@ -139,10 +139,10 @@ module _ (c : ℕ) (z : KeySize) where
 -- ---- with the identity chain and with the one that shifts a book is built, into every buffer that has room for it
 
 module _ (z : KeySize) (key : List ℕ) (e : sizeOfKey (length key) ≡ Found z) (out : List ℕ) (h : bookLength z ≤ length out) where
-  pub met : Built key (identityChain z) out (bookOf (rounds z) (keyRows z key) (identityChain z) ++ drop (bookLength z) out)
+  pub met : Built key (identityChain z) out (wholeBook z (keyRows z key) (identityChain z) ++ drop (bookLength z) out)
   met = any-built z key (identityChain z) out e (identity-valid z) h
 
-  pub met-shifted : Built key (shiftedChain z) out (bookOf (rounds z) (keyRows z key) (shiftedChain z) ++ drop (bookLength z) out)
+  pub met-shifted : Built key (shiftedChain z) out (wholeBook z (keyRows z key) (shiftedChain z) ++ drop (bookLength z) out)
   met-shifted = any-built z key (shiftedChain z) out e (shifted-valid z) h
 
 -- ---- and beside the second a reading book: a message's file is read there
@@ -153,7 +153,7 @@ module _ (key : List ℕ) (e : sizeOfKey (length key) ≡ Found (keySize key)) (
   z = keySize key
 
   abbrev filled : List ℕ
-  filled = bookOf (rounds z) (keyRows z key) (shiftedChain z) ++ drop (bookLength z) out
+  filled = wholeBook z (keyRows z key) (shiftedChain z) ++ drop (bookLength z) out
 
   abbrev filledToRead : List ℕ
   filledToRead = readingBookOf (rounds z) (keyRows z key) (shiftedReadingChain z) ++ drop (readingBookLength z) rout

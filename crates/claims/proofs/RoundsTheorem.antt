@@ -12,17 +12,18 @@ use Rattle.cipher.specs.Chain.{chainSet, Chain}
 use Rattle.cipher.specs.Book.{bookBody, Book}
 use Rattle.cipher.specs.Answers.{keySize}
 use Rattle.cipher.specs.declared.size.KeySize.{KeySize}
+use Rattle.cipher.specs.declared.size.SizeFound.the-variants.{Found}
 use Rattle.cipher.proofs.BookMeaning.{book-rounds}
+use Rattle.driver.specs.Driver.{admitAnswer}
 use Rattle.driver.proofs.AnswerLaws.{rounds-some}
 use Rattle.claims.specs.Built.{Built, bookIn, keyRounds}
 use Rattle.claims.specs.Demand3.{RoundsOfLea}
-use Rattle.claims.proofs.BuiltLaws.{built-chain, built-book}
-use Rattle.claims.proofs.BookPasses.{book-found}
+use Rattle.claims.proofs.BuiltLaws.{built-chain, built-book, built-found}
 
-pub after-rounds : (z : KeySize) (rows : List (List ℕ)) (ch bk : List ℕ) → Chain z ch → Book (rounds z) rows ch (bookBody bk)
+pub after-rounds : (z : KeySize) (rows : List (List ℕ)) (ch bk : List ℕ) → Chain z ch → Book (rounds z) rows ch (bookBody bk) → admitAnswer bk ≡ (0, Found z)
     → (b : List ℕ) → length b ≡ 16 → (n : ℕ) → 1 ≤ n → n ≤ rounds z → RoundsOfLea rows ch bk n b
-after-rounds z rows ch bk v h b l n p q =
-    let e = rounds-some bk n b z (book-found z rows ch bk h) l q in
+after-rounds z rows ch bk v h found b l n p q =
+    let e = rounds-some bk n b z found l q in
     (ap (λ (r : ℕ × List ℕ). r .0) e, ap (λ (r : ℕ × List ℕ). decoded (chainSet ch n) (r .1)) e ∙ book-rounds z rows ch (bookBody bk) v h b n q)
 
 -- for every key, chain and buffer with which a book is built
@@ -30,3 +31,4 @@ pub after-rounds-built : (key ch out held : List ℕ) → Built key ch out held
     → (b : List ℕ) → length b ≡ 16 → (n : ℕ) → 1 ≤ n → n ≤ keyRounds key → RoundsOfLea (keyRows (keySize key) key) ch (bookIn key held) n b
 after-rounds-built key ch out held h =
     after-rounds (keySize key) (keyRows (keySize key) key) ch (bookIn key held) (built-chain key ch out held h) (built-book key ch out held h)
+    (built-found key ch out held h)

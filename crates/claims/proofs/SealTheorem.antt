@@ -13,7 +13,7 @@ use Rattle.cipher.specs.Lea.{encipher, decipher}
 use Rattle.cipher.specs.Cbc.{cbcEnciphered, cbcDeciphered}
 use Rattle.cipher.specs.Coding.{setOf, decoded}
 use Rattle.cipher.specs.Chain.{messageSet, Chain}
-use Rattle.cipher.specs.Book.{Book}
+use Rattle.cipher.specs.Book.{bookBody, Book}
 use Rattle.cipher.specs.Answers.{keySize, badText}
 use Rattle.cipher.specs.declared.size.SizeFound.the-variants.{Found}
 use Rattle.cipher.proofs.ScheduleLaws.{key-words}
@@ -29,9 +29,8 @@ use Rattle.archive.specs.Archive.{openedText, endsPadded, unpadded, openAnswer}
 use Rattle.archive.proofs.AnswerLaws.{open-9, open-done}
 use Rattle.claims.specs.Built.{Built, bookIn, keyRounds, padSet, archiveSet}
 use Rattle.claims.specs.Sealing.{codeOf, fileOf, Writes, SealedWay}
-use Rattle.claims.proofs.BuiltLaws.{built-size, built-chain, built-book}
+use Rattle.claims.proofs.BuiltLaws.{built-size, built-chain, built-book, built-found}
 use Rattle.claims.proofs.LoneSets.{pad-set, archive-set, pad-coded, archive-decoded}
-use Rattle.claims.proofs.BookPasses.{book-found}
 use Rattle.claims.proofs.SealedText.{ends-padded, padding-off, length-file, enciphered-sealed, opened-sealed}
 
 -- the three calls, for every key, chain and buffer with which a book is built
@@ -51,7 +50,7 @@ module _ (key ch out held : List ℕ) (built : Built key ch out held) (hk : Byte
   valid : Chain (keySize key) ch
   valid = built-chain key ch out held built
 
-  made : Book (keyRounds key) (keyRows (keySize key) key) ch (bookIn key held)
+  made : Book (keyRounds key) (keyRows (keySize key) key) ch (bookBody (bookIn key held))
   made = built-book key ch out held built
 
   code-is : codeOf u m ≡ codedText (messageSet ch) padded
@@ -63,8 +62,8 @@ module _ (key ch out held : List ℕ) (built : Built key ch out held) (hk : Byte
 
   pub file-length : length (fileOf (padSet ch) (bookIn key held) iv m) ≡ length (paddedForSealing m)
   file-length =
-      ap (λ (c : List ℕ). length (sealed book iv c)) code-is
-      ∙ length-file (keySize key) (keyRows (keySize key) key) ch book valid made (key-words (keySize key) key hk) iv padded (length m / 16 + 1) (sealing-blocks m)
+      ap (λ (c : List ℕ). length (sealed (bookBody book) iv c)) code-is
+      ∙ length-file (keySize key) (keyRows (keySize key) key) ch (bookBody book) valid made (key-words (keySize key) key hk) iv padded (length m / 16 + 1) (sealing-blocks m)
 
   good : (n : ℕ) → n ≡ length padded → badText n ≡ false
   good n e =
@@ -76,8 +75,8 @@ module _ (key ch out held : List ℕ) (built : Built key ch out held) (hk : Byte
   pub opened-is : openedText (decipher (keySize key) key) (setOf (archiveSet key ch)) iv (fileOf (padSet ch) (bookIn key held) iv m) ≡ paddedForSealing m
   unfolding openedText
   opened-is =
-      ap₂ (λ (d : List ℕ → List ℕ) (c : List ℕ). flatten (cbcDeciphered (decipher (keySize key) key) (d iv) (map d (blocks (sealed book iv c))))) (archive-decoded key ch valid) code-is
-      ∙ opened-sealed (keySize key) (keyRows (keySize key) key) ch book valid made (key-words (keySize key) key hk) iv padded (length m / 16 + 1) (sealing-blocks m)
+      ap₂ (λ (d : List ℕ → List ℕ) (c : List ℕ). flatten (cbcDeciphered (decipher (keySize key) key) (d iv) (map d (blocks (sealed (bookBody book) iv c))))) (archive-decoded key ch valid) code-is
+      ∙ opened-sealed (keySize key) (keyRows (keySize key) key) ch (bookBody book) valid made (key-words (keySize key) key hk) iv padded (length m / 16 + 1) (sealing-blocks m)
       (sealing-bytes m hm)
 
   message-back : unpadded (openedText (decipher (keySize key) key) (setOf s) iv (fileOf u book iv m)) ≡ m
@@ -91,7 +90,7 @@ module _ (key ch out held : List ℕ) (built : Built key ch out held) (hk : Byte
   }
 
   found : admitAnswer book ≡ (0, Found (keySize key))
-  found = book-found (keySize key) (keyRows (keySize key) key) ch book made
+  found = built-found key ch out held built
 
   sealing-writes : Writes (sealAnswer book iv (codeOf u m)) (length (fileOf u book iv m)) (fileOf u book iv m)
   sealing-writes = record {
@@ -111,8 +110,8 @@ module _ (key ch out held : List ℕ) (built : Built key ch out held) (hk : Byte
 
   blocks-enciphered : map (decoded (setOf s)) (blocks (fileOf u book iv m)) ≡ cbcEnciphered (encipher (keySize key) key) (decoded (setOf s) iv) (blocks padded)
   blocks-enciphered =
-      ap₂ (λ (d : List ℕ → List ℕ) (c : List ℕ). map d (blocks (sealed book iv c))) (archive-decoded key ch valid) code-is
-      ∙ enciphered-sealed (keySize key) (keyRows (keySize key) key) ch book valid made (key-words (keySize key) key hk) iv padded (length m / 16 + 1) (sealing-blocks m)
+      ap₂ (λ (d : List ℕ → List ℕ) (c : List ℕ). map d (blocks (sealed (bookBody book) iv c))) (archive-decoded key ch valid) code-is
+      ∙ enciphered-sealed (keySize key) (keyRows (keySize key) key) ch (bookBody book) valid made (key-words (keySize key) key hk) iv padded (length m / 16 + 1) (sealing-blocks m)
       (sealing-bytes m hm)
       ∙ ap (λ (d : List ℕ → List ℕ). cbcEnciphered (encipher (keySize key) key) (d iv) (blocks padded)) (sym (archive-decoded key ch valid))
 

@@ -26,9 +26,9 @@ use Rattle.driver.proofs.AnswerLaws.{begin-done, block-7, block-21, block-22, b
 use Rattle.claims.specs.Model.{Call, blockCall, lastCall, Answer, tag, State, begun, kindKey, blockTaken, tagOf, modelCall}
 use Rattle.claims.specs.Calls.{answerOf, blockReply, lastReply, driverCall, run, driverAnswers, modelAnswers}
 use Rattle.claims.specs.Built.{Built, bookIn, keyRounds}
-use Rattle.claims.proofs.BuiltLaws.{built-chain, built-book}
+use Rattle.claims.proofs.BuiltLaws.{built-chain, built-book, built-found}
 use Rattle.claims.proofs.ModelCases.{model-block-7, model-block-21, model-block-22, model-block, model-last-7, model-last-10, model-last-21, model-last}
-use Rattle.claims.proofs.BookPasses.{last-permutes, book-found, pass-decoded, pass-block}
+use Rattle.claims.proofs.BookPasses.{last-permutes, pass-decoded, pass-block}
 
 -- the key block of a last call's group is K1 for kind 0, K2 for kind 1
 kind-key : (E : List ℕ → List ℕ) (k : ℕ) → groupKey E (suc k) ≡ kindKey E k
@@ -36,7 +36,7 @@ unfolding groupKey kindKey
 kind-key E zero = refl
 kind-key E (suc k) = refl
 
-module _ (z : KeySize) (rows : List (List ℕ)) (ch bk : List ℕ) (v : Chain z ch) (h : Book (rounds z) rows ch (bookBody bk)) where
+module _ (z : KeySize) (rows : List (List ℕ)) (ch bk : List ℕ) (v : Chain z ch) (h : Book (rounds z) rows ch (bookBody bk)) (found : admitAnswer bk ≡ (0, Found z)) where
   abbrev E : List ℕ → List ℕ
   E = firstRounds rows (rounds z)
 
@@ -45,9 +45,6 @@ module _ (z : KeySize) (rows : List (List ℕ)) (ch bk : List ℕ) (v : Chain z 
 
   abbrev S : Set
   S = chainSet ch (rounds z)
-
-  found : admitAnswer bk ≡ (0, Found z)
-  found = book-found z rows ch bk h
 
   -- ---- a session that is to the driver what a state is to the model
   record Same (d : Session) (x : State) : Type 0 where
@@ -122,4 +119,4 @@ module _ (z : KeySize) (rows : List (List ℕ)) (ch bk : List ℕ) (v : Chain z 
 pub session-built : (key ch out held : List ℕ) → Built key ch out held → (cs : List Call)
     → driverAnswers (bookIn key held) cs ≡ modelAnswers (encipher (keySize key) key) (messageSet ch) (chainSet ch (keyRounds key)) cs
 session-built key ch out held b cs =
-    session (keySize key) (keyRows (keySize key) key) ch (bookIn key held) (built-chain key ch out held b) (built-book key ch out held b) cs
+    session (keySize key) (keyRows (keySize key) key) ch (bookIn key held) (built-chain key ch out held b) (built-book key ch out held b) (built-found key ch out held b) cs

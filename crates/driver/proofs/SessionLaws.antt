@@ -48,7 +48,7 @@ module _ (bk m : List ℕ) (s : Session) (f : Fits s) where
       (0, moved s (pass (bookBody bk) 0 (s .block) m))
       (λ q. (f, λ n. refl))
       (λ c.
-      let l = leb-false 65535 (s .taken) (c .1 .1 .1 .0) in
+      let l = leb-false 65535 (s .taken) (c .1 .1 .1 .1 .0) in
       (record { size = block-pass (bookBody bk) 0 (s .block) m .size; count = omega arith }, λ n. absurd (n refl)))
 
   pub last-kept : (k : ℕ) → Kept s (lastAnswer bk m k s .0 .0) (lastAnswer bk m k s .1)

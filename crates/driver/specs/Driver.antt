@@ -1,16 +1,16 @@
--- The driver (document 01, "Pad, driver, archive", "Refusals from the input" and "from the state"): what each of its
+-- The driver (document 01, "Pad, driver, archive", "Refusals from the input" and "from the state"; 02, 2026-05): what each of its
 -- operations answers, from a book (01's term) of any bytes.
 use mathlib.Core.Bool.{Bool, true, false, cond, not, _||_}
 use mathlib.Core.List.{List, [], _∷_, _++_, flatten}
 use Prim.Native.Nat.{ℕ, suc, _+_, _*_, _-_, _/_}
 use lib.Dec.{eqb, leb, ltb}
-use lib.ListN.{length, drop}
+use lib.ListN.{length, getD, drop}
 use Rattle.lists.specs.Blocks.{zeros, blocks}
 use Rattle.lists.specs.Refusals.{first}
 use Rattle.cipher.specs.Tables.{tableRound, tableRounds, tableFold}
 use Rattle.cipher.specs.Book.{bookBody, startOf, groupAt, roundAt}
 use Rattle.cipher.specs.Lengths.{roundsStart, roundLength}
-use Rattle.cipher.specs.KeySize.{rounds, bookLength, sizeOfBook}
+use Rattle.cipher.specs.KeySize.{rounds, keyLength, bookLength, sizeOfBook}
 use Rattle.cipher.specs.Refusal.{numberOf, outcomeOf}
 use Rattle.cipher.specs.Answers.{blockTold, blockTests, textTests, roomTests}
 use Rattle.cipher.specs.declared.size.KeySize.{KeySize}
@@ -25,9 +25,18 @@ use Rattle.driver.specs.declared.session.TagAnswer.{TagAnswer}
 
 -- ---- rounds
 
--- refusal 6: a book of none of the three lengths; a round's tables of another length than theirs
+-- whether the byte b in front of a book is the length of a key of the size that the book's length tells
+abbrev pub states : SizeFound → ℕ → Bool
+states (Found z) b = eqb b (keyLength z)
+states Unknown b = false
+
+-- refusal 6: a book of none of the three lengths; a round's tables of another length than theirs. Refusal 33: a book whose first
+-- byte does not belong to its length
 abbrev pub bookTests : List ℕ → List (Bool × ℕ)
-bookTests bk = (not (eqb (length bk) (bookLength Bytes16) || eqb (length bk) (bookLength Bytes24) || eqb (length bk) (bookLength Bytes32)), 6) ∷ []
+bookTests bk =
+    (not (eqb (length bk) (bookLength Bytes16) || eqb (length bk) (bookLength Bytes24) || eqb (length bk) (bookLength Bytes32)), 6)
+    ∷ (not (states (sizeOfBook (length bk)) (getD bk 0 0)), 33)
+    ∷ []
 
 abbrev pub tablesTests : List ℕ → List (Bool × ℕ)
 tablesTests t = (not (eqb (length t) roundLength), 6) ∷ []

@@ -44,7 +44,7 @@ fn kept(s: Session, why: Refusal) -> SessionAnswer
     }
 }
 
-// A fresh session on a book in place of a session, which stays where the book is refused (6).
+// A fresh session on a book in place of a session, which stays where the book is refused (6, 33).
 pub fn begin_over(s: Session, book: &[u8]) -> SessionAnswer
     ensures { λ r. ⌜ D.sessionTold r ≡ D.begunOver (now (book .entry)) s ⌝ }
 {

@@ -12,7 +12,6 @@ use lib.Seq.{take-at}
 use Rattle.lists.specs.Blocks.{Bytes}
 use Rattle.lists.specs.Refusals.{first}
 use Rattle.lists.proofs.RefusalLaws.{first-hit, first-pass}
-use Rattle.cipher.specs.Lea.{keyRows}
 use Rattle.cipher.specs.Coding.{setOf}
 use Rattle.cipher.specs.Chain.{Chain}
 use Rattle.cipher.specs.Answers.{keySize, roomTests}
@@ -27,9 +26,8 @@ use Rattle.driver.proofs.AnswerLaws.{seal-7}
 use Rattle.archive.specs.Archive.{openAnswer}
 use Rattle.claims.specs.Built.{Built, bookIn, padSet, archiveSet}
 use Rattle.claims.specs.Sealing.{codeOf, fileOf, SealedWay}
-use Rattle.claims.proofs.BuiltLaws.{built-chain, built-is, built-book}
+use Rattle.claims.proofs.BuiltLaws.{built-chain, built-is, built-found}
 use Rattle.claims.proofs.LoneSets.{pad-set}
-use Rattle.claims.proofs.BookPasses.{book-found}
 use Rattle.claims.proofs.SealTheorem.{file-length, seal-built}
 use Rattle.roundtrip.specs.Roundtrips.{keyBook, over, codeCallTests, sealCallTests}
 use Rattle.roundtrip.specs.Steps.{next, written, sealedOpened, codedOpened}
@@ -128,7 +126,7 @@ module _ (key ch bk held : List ℕ) (built : Built key ch bk held) (hk : Bytes 
         go (yes d) = files most d w ∙ sym (block-taken iv (roomTests size se) (λ q. w ((q, 0), (se, out))) (opened (overFile book w)) d)
         go (no d) =
             ap (λ (a : (ℕ × ℕ) × List ℕ). w (written a out (λ f. openAnswer key s iv f out)))
-            (seal-7 book iv code se (keySize key) (book-found (keySize key) (keyRows (keySize key) key) ch book (built-book key ch bk held built)) d)
+            (seal-7 book iv code se (keySize key) (built-found key ch bk held built) d)
             ∙ sym (block-refused iv (roomTests size se) (λ q. w ((q, 0), (se, out))) (opened (overFile book w)) d)
 
     codes : (w : (ℕ × ℕ) × (List ℕ × (List ℕ × List ℕ)) → B)

@@ -25,7 +25,6 @@ use Rattle.cipher.specs.declared.refusal.Refusal.{Refusal}
 use Rattle.cipher.specs.declared.refusal.Outcome.{Outcome}
 use Rattle.cipher.specs.declared.refusal.Outcome.the-variants.{Done, Refused}
 use Rattle.cipher.proofs.AnswerLaws.{number-more}
-use Rattle.cipher.proofs.BookLaw.{book-size}
 use Rattle.cipher.proofs.CheckLaws.{Numbered, told-refused}
 use Rattle.book.specs.Answers.{builtInto, buildAnswer}
 use Rattle.claims.specs.Built.{Built, bookIn, keyRounds, archiveSet}
@@ -33,7 +32,7 @@ use Rattle.roundtrip.specs.Roundtrips.{keyBook, over, buildCallTests}
 use Rattle.roundtrip.specs.Steps.{startTold, startAnswer}
 use Rattle.roundtrip.specs.declared.start.Started.{Started}
 use Rattle.roundtrip.specs.declared.start.Started.the-variants as S
-use Rattle.claims.proofs.BuiltLaws.{not-refused, built-size, built-chain}
+use Rattle.claims.proofs.BuiltLaws.{not-refused, whole-length, built-size, built-chain}
 
 -- an answer of which the number is a refusal's: the same test decides whatever is answered
 module _ {Y : Type 0} (number : Y → ℕ) (refuse : ℕ → Y) (e : (q : ℕ) → number (refuse q) ≡ q) (go : Y) (d : number go ≡ 0) where
@@ -59,7 +58,7 @@ module _ (key ch bk : List ℕ) where
   answer-is : buildAnswer key ch bk ≡ first (buildCallTests key ch bk) (λ q. (q, bk)) (0, over (keyBook key ch) bk)
   unfolding builtInto
   answer-is =
-      ap (λ (n : ℕ). first (buildCallTests key ch bk) (λ q. (q, bk)) (0, keyBook key ch ++ drop n bk)) (sym (book-size (keyRounds key) (keyRows (keySize key) key) ch))
+      ap (λ (n : ℕ). first (buildCallTests key ch bk) (λ q. (q, bk)) (0, keyBook key ch ++ drop n bk)) (sym (whole-length (keySize key) (keyRows (keySize key) key) ch))
 
   -- building gave r, and held is what the buffer then holds
   module _ (held : List ℕ) (r : Outcome) (e : (outcomeOf r, held) ≡ buildAnswer key ch bk) where

@@ -9,6 +9,7 @@ use lib.Dec.{lit<}
 use lib.ListN.{length, take, drop}
 use Rattle.cipher.specs.Chain.{setTests}
 use Rattle.cipher.specs.Coding.{setOf}
+use Rattle.cipher.specs.Book.{bookBody}
 use Rattle.cipher.specs.Refusal.{numberOf, writtenOf}
 use Rattle.cipher.specs.declared.refusal.Refusal.{Refusal}
 use Rattle.cipher.specs.declared.refusal.Written.{Written}
@@ -61,11 +62,11 @@ module _ {B : Type 0} (a : (ℕ × ℕ) × List ℕ) (r : Written) (x : List ℕ
 pub seal-room : (bk iv cs se x : List ℕ) (r : Written) → (writtenOf r, x) ≡ D.sealAnswer bk iv cs se → (n : ℕ) → r ≡ W.Bytes n → n ≤ length se
 unfolding D.sealAnswer
 seal-room bk iv cs se x r e n d =
-    let t = not-refused (λ (y : (ℕ × ℕ) × List ℕ). y .0 .0) (λ q. ((q, 0), se)) (λ q. refl) ((0, length cs), D.sealed bk iv cs ++ drop (length cs) se)
-    (D.sealTests bk iv cs se) (lit< tt, (lit< tt, (lit< tt, (lit< tt, tt))))
+    let t = not-refused (λ (y : (ℕ × ℕ) × List ℕ). y .0 .0) (λ q. ((q, 0), se)) (λ q. refl) ((0, length cs), D.sealed (bookBody bk) iv cs ++ drop (length cs) se)
+    (D.sealTests bk iv cs se) (lit< tt, (lit< tt, (lit< tt, (lit< tt, (lit< tt, tt)))))
     (ap (λ (y : (ℕ × ℕ) × List ℕ). y .0 .0) (sym e) ∙ ap (λ (y : Written). (writtenOf y) .0) d) in
     let m : n ≡ length cs = ap (λ (y : Written). (writtenOf y) .1) (sym d) ∙ ap (λ (y : (ℕ × ℕ) × List ℕ). y .0 .1) (e ∙ t .1) in
-    let h = ltb-false (length se) (length cs) (t .0 .1 .1 .1 .0) in
+    let h = ltb-false (length se) (length cs) (t .0 .1 .1 .1 .1 .0) in
     omega arith
 
 -- and what is told of a code is told where it is written

@@ -12,18 +12,18 @@ use Rattle.cipher.specs.KeySize.{bookLength}
 use Rattle.cipher.specs.Lea.{keyRows}
 use Rattle.cipher.specs.Coding.{setOf}
 use Rattle.cipher.specs.Chain.{chainTests}
-use Rattle.cipher.specs.Book.{bookOf}
+use Rattle.cipher.specs.Book.{wholeBook}
 use Rattle.cipher.specs.Answers.{keyTests, keySize, blockTests, roomTests}
 use Rattle.pad.specs.Padding.{paddedForSealing, paddedForTag, codedText}
 use Rattle.archive.specs.Archive.{messageTests}
-use Rattle.claims.specs.Built.{keyRounds, padSet}
+use Rattle.claims.specs.Built.{padSet}
 use Rattle.claims.specs.Sealing.{codeOf, fileOf}
 
 -- ---- what is written
 
 -- the book of a key and a chain
 abbrev pub keyBook : List ℕ → List ℕ → List ℕ
-keyBook key ch = bookOf (keyRounds key) (keyRows (keySize key) key) ch
+keyBook key ch = wholeBook (keySize key) (keyRows (keySize key) key) ch
 
 -- a message coded for a tag under the set u
 abbrev pub tagCodeOf : List ℕ → List ℕ → List ℕ

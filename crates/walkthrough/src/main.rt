@@ -14,7 +14,7 @@ mod stations; // stations.rt: what each station does
 // The chain and the book of a 16-byte key, which has 24 rounds.
 const CHAIN: usize = 2 * lengths::SET + (lengths::SET + lengths::ROUND_CODINGS) * 24;
 
-const BOOK: usize = lengths::START + 3 * lengths::GROUP + lengths::ROUND_TABLES * 24;
+const BOOK: usize = lengths::BODY + lengths::ROUNDS + lengths::ROUND_TABLES * 24;
 
 fn chain_room() -> [u8; CHAIN]
     ensures { λ r. ⌜ 23104 ≡ length r ⌝ }
@@ -23,7 +23,7 @@ fn chain_room() -> [u8; CHAIN]
 }
 
 fn book_room() -> [u8; BOOK]
-    ensures { λ r. ⌜ 466960 ≡ length r ⌝ }
+    ensures { λ r. ⌜ 466961 ≡ length r ⌝ }
 {
     [0u8; BOOK]
 }

@@ -2,6 +2,7 @@
 ghost use mathlib.Core.Path.{_≡_};
 ghost use lib.ListN.{length};
 use crate::compare::compare;
+use crate::print::plain;
 use crate::print::refused;
 use crate::print::say;
 use crate::print::show;
@@ -9,6 +10,7 @@ use archive::check::Checked;
 use archive::check::check;
 use archive::open::open;
 use book::build::build;
+use cipher::invert::wide;
 use cipher::lengths;
 use cipher::refusal::Outcome;
 use cipher::refusal::Written;
@@ -36,6 +38,16 @@ pub fn room() -> [u8; CODED]
     [0u8; CODED]
 }
 
+// What a book says of its key.
+fn key_stated(book: &[u8]) {
+    if book.len() == 0 {
+        return;
+    }
+    say(b"        for a key of ");
+    plain(wide(book[0]));
+    say(b" bytes, as its first byte says\n");
+}
+
 // The works: a book from a key and a chain.
 pub fn works(key: &[u8], chain: &[u8], book: &mut [u8]) {
     show(b"   in   key              ", key);
@@ -44,6 +56,7 @@ pub fn works(key: &[u8], chain: &[u8], book: &mut [u8]) {
         return refused(b"   out  book             ", why.number());
     }
     show(b"   out  book             ", book);
+    key_stated(book);
 }
 
 // The pad: codes the ink for sealing and for a tag, and answers the kind.

@@ -1,15 +1,17 @@
 -- `build::build` meets its contract.
-use mathlib.Core.Path.{sym, ap, _∙_}
-use mathlib.Core.List.{List}
+use mathlib.Core.Path.{_≡_, sym, ap, ap₂, _∙_}
+use mathlib.Core.List.{List, [], _∷_}
 use Prim.Native.Nat.{ℕ}
 use native.Mathlib.Omega.{arith}
 use borrow.Author.Needs.{needs}
-use Rattle.lists.proofs.TwoParts.{room-length}
+use lib.ListN.{length, length-set}
 use Rattle.cipher.specs.KeySize.{keyLength, rounds, bookLength}
 use Rattle.cipher.specs.Book.{bookOf}
-use Rattle.cipher.proofs.KeySizeLaws.{found-length}
+use Rattle.cipher.proofs.KeySizeLaws.{key-le, found-length}
 use Rattle.cipher.proofs.CheckLaws.{chain-checked}
-use Rattle.book.proofs.AnswerLaws.{built-key, built-chain, built-room, built-front}
+use Rattle.cipher.proofs.BookLaw.{book-size}
+use Rattle.book.proofs.AnswerLaws.{built-key, built-chain, built-room, built-done}
+use Rattle.book.proofs.WholeLaws.{body-room, byte-joined, byte-length}
 use Rattle.book.proofs.build.build.Statement.{statement}
 use Rattle.book.proofs.build.build.Tie as tie
 
@@ -43,9 +45,25 @@ key-rows-requires c κs =
     let at-of-key-len = at-size .before .before in
     found-length keyLength _ _ (sym (at-of-key-len .of-key-len .ensures) ∙ at-size .size .given .1)
 
+cast-out : tie.Need-cast-out
+cast-out c = record { fits = omega (arith, c .key-len .ensures, key-le (c .before .before .before .before .before .before .before .before .size .given .0 .0)) }
+
+slice-write-out : tie.Need-slice-write-out
+slice-write-out c =
+    let at-book-len = c .before .before .before in
+    let b = at-book-len .book-len .ensures in
+    omega arith
+
+part-fill-end : tie.Need-part-fill-end
+part-fill-end c =
+    let at-if2 = c .before .before in
+    let l = length-set (at-if2 .before .before .before .before .before .before .before .before .before .before .before .before .args .out .now) 0 (c .key-len .result) in
+    omega (arith, at-if2 .if2 .left)
+
 fill-requires : tie.Need-fill-requires
 fill-requires c κs =
-    let at-book-len = c .before .before .before in
+    let at-key-len = c .before in
+    let at-book-len = at-key-len .before .before .before in
     let at-if1 = at-book-len .before in
     let at-number = at-if1 .before in
     let at-check-sized = at-number .before in
@@ -54,13 +72,26 @@ fill-requires c κs =
     let b = at-book-len .book-len .ensures in
     let z = at-size .size .given .0 .0 in (
       chain-checked z _ (sym (at-check-sized .check-sized .ensures) ∙ sym (at-number .number .ensures) ∙ at-if1 .if1 .left),
-      room-length (at-book-len .book-len .result) (bookLength z) (e .args .out .now) b (omega arith),
+      body-room (at-key-len .key-len .result) [] (e .args .out .now) (at-book-len .book-len .result) (bookLength z) b (omega arith) (omega arith) ∙ omega arith,
     )
+
+same-length : tie.Need-same-length
+same-length c =
+    let at-fill = c .before .before in
+    let at-key-len = at-fill .before .before in
+    let at-book-len = at-key-len .before .before .before in
+    let at-size = at-book-len .before .before .before .before .before in
+    let e = at-size .before .before .before .before .before .before in
+    let b = at-book-len .book-len .ensures in
+    let z = at-size .size .given .0 .0 in
+    byte-length (at-key-len .key-len .result) (at-fill .fill .last .1 .1 .1 .0) (e .args .out .now) (at-book-len .book-len .result) (bookLength z) b (omega arith) (omega arith)
+    (ap length (at-fill .fill .ensures) ∙ book-size (rounds z) _ (e .args .chain .now) ∙ omega arith)
 
 returns-4 : tie.Need-returns-4
 returns-4 c =
     let at-fill = c .before .before in
-    let at-key-rows = at-fill .before .before in
+    let at-key-len = at-fill .before .before in
+    let at-key-rows = at-key-len .before in
     let at-book-len = at-key-rows .before .before in
     let at-if1 = at-book-len .before in
     let at-number = at-if1 .before in
@@ -70,14 +101,16 @@ returns-4 c =
     let e = at-of-key-len .before .before .before .before in
     let z = at-size .size .given .0 .0 in
     let b = at-book-len .book-len .ensures in
-    built-front _ _ _ _ _ _ _ z (sym (at-of-key-len .of-key-len .ensures) ∙ at-size .size .given .1)
-    (chain-checked (at-size .size .given .0 .0) _ (sym (at-check-sized .check-sized .ensures) ∙ sym (at-number .number .ensures) ∙ at-if1 .if1 .left))
-    (omega arith) (at-book-len .book-len .result) b _
-    (at-fill .fill .ensures ∙ ap (λ (rows : List (List ℕ)). bookOf (rounds z) rows (e .args .chain .now)) (at-key-rows .key-rows .ensures))
+    ap (λ (l : List ℕ). (0, l)) (byte-joined (at-key-len .key-len .result) (at-fill .fill .last .1 .1 .1 .0) (e .args .out .now) (at-book-len .book-len .result) (bookLength z) b (omega arith) (omega arith))
+    ∙ built-done _ _ _ _ _ _ _ z (sym (at-of-key-len .of-key-len .ensures) ∙ at-size .size .given .1)
+    (chain-checked z _ (sym (at-check-sized .check-sized .ensures) ∙ sym (at-number .number .ensures) ∙ at-if1 .if1 .left))
+    (omega arith) _
+    (ap₂ {C = List ℕ} (λ (k : ℕ) (l : List ℕ). k ∷ l) (at-key-len .key-len .ensures)
+    (at-fill .fill .ensures ∙ ap (λ (rows : List (List ℕ)). bookOf (rounds z) rows (e .args .chain .now)) (at-key-rows .key-rows .ensures)))
 
 pub build-spec : {M : Type 1} → statement M
 build-spec =
     tie.close
     (tie.spec (λ c κs. search needs) (λ c. search needs) (λ c. search needs) returns (λ c κs. search needs) (λ c κs. search needs) returns-2
-    (λ c κs. search needs) returns-3 key-rows-requires (λ c. search needs) (λ c. search needs) (λ c. search needs) fill-requires
-    (λ c. search needs) returns-4)
+    (λ c κs. search needs) returns-3 key-rows-requires (λ c κs. search needs) cast-out slice-write-out (λ c. search needs) (λ c. search needs)
+    part-fill-end fill-requires same-length returns-4)

@@ -1,6 +1,6 @@
 -- `build::fill` meets its contract.
-use mathlib.Core.Path.{_∙_}
-use Prim.Native.Nat.{_+_, _*_}
+use mathlib.Core.Path.{_≡_, _∙_}
+use Prim.Native.Nat.{_+_, _-_, _*_}
 use native.Mathlib.Nat.{le-of-eq}
 use native.Mathlib.Omega.{arith}
 use borrow.Author.Needs.{needs}
@@ -12,6 +12,12 @@ use Rattle.book.proofs.BuildLaws.{message-permutes}
 use Rattle.book.proofs.WholeLaws.{set-in, start-length, groups-length, groups-room, after-length, rounds-room, all-joined, all-length, rounds-length, after-first, book-is}
 use Rattle.book.proofs.build.fill.Statement.{statement}
 use Rattle.book.proofs.build.fill.Tie as tie
+
+-- where the body ends
+end : (c : tie.After-book-len) → c .book-len .result - 1 ≡ 24592 + 18432 * rounds (c .before .before .before .before .before .args .size)
+end c =
+    let b = c .book-len .ensures in
+    omega arith
 
 start-requires : tie.Need-start-requires
 start-requires c κs =
@@ -36,7 +42,7 @@ groups-requires c κs =
       omega (arith, e .pre .0 .size),
       after-first ch (omega (arith, e .pre .0 .size)),
       groups-room (at-start .start .last .1 .0) (e .args .out .now) _ (rounds (e .args .size)) (start-length _ _ (at-start .start .ensures)) (e .pre .1)
-          (at-book-len .book-len .ensures),
+          (end at-book-len),
     )
 
 part-round-parts-end : tie.Need-part-round-parts-end
@@ -45,10 +51,10 @@ part-round-parts-end c =
     let at-start = at-groups .before .before .before .before .before .before in
     let at-book-len = at-start .before .before .before in
     let e = at-book-len .before .before .before .before .before in
-    let n = at-book-len .book-len .ensures in
+    let n = end at-book-len in
     let s = start-length _ _ (at-start .start .ensures) in
     let g = groups-length _ _ _ _ (threeKeys _ _) (at-groups .groups .ensures) in
-    let m = after-length (at-start .start .last .1 .0) (e .args .out .now) (at-book-len .book-len .result) (rounds (e .args .size)) s (e .pre .1) n
+    let m = after-length (at-start .start .last .1 .0) (e .args .out .now) (at-book-len .book-len .result - 1) (rounds (e .args .size)) s (e .pre .1) n
     (at-groups .groups .last .1 .1 .1 .1 .0) g in
     omega (arith, n, m)
 
@@ -58,11 +64,11 @@ round-parts-requires c κs =
     let at-start = at-groups .before .before .before .before .before .before in
     let at-book-len = at-start .before .before .before in
     let e = at-book-len .before .before .before .before .before in
-    let n = at-book-len .book-len .ensures in
+    let n = end at-book-len in
     let s = start-length _ _ (at-start .start .ensures) in
     let g = groups-length _ _ _ _ (threeKeys _ _) (at-groups .groups .ensures) in (
       e .pre .0,
-      rounds-room (at-start .start .last .1 .0) (e .args .out .now) (at-book-len .book-len .result) (rounds (e .args .size)) s (e .pre .1) n
+      rounds-room (at-start .start .last .1 .0) (e .args .out .now) (at-book-len .book-len .result - 1) (rounds (e .args .size)) s (e .pre .1) n
           (at-groups .groups .last .1 .1 .1 .1 .0) g,
     )
 
@@ -73,8 +79,8 @@ same-length c =
     let at-start = at-groups .before .before .before .before .before .before in
     let at-book-len = at-start .before .before .before in
     let e = at-book-len .before .before .before .before .before in
-    all-length (at-start .start .last .1 .0) (e .args .out .now) (at-book-len .book-len .result) (rounds (e .args .size))
-    (start-length _ _ (at-start .start .ensures)) (e .pre .1) (at-book-len .book-len .ensures) (at-groups .groups .last .1 .1 .1 .1 .0)
+    all-length (at-start .start .last .1 .0) (e .args .out .now) (at-book-len .book-len .result - 1) (rounds (e .args .size))
+    (start-length _ _ (at-start .start .ensures)) (e .pre .1) (end at-book-len) (at-groups .groups .last .1 .1 .1 .1 .0)
     (groups-length _ _ _ _ (threeKeys _ _) (at-groups .groups .ensures))
     (at-round-parts .round-parts .last .1 .1 .1 .0) (rounds-length _ (rounds (e .args .size)) _ _ (at-round-parts .round-parts .ensures))
 
@@ -89,8 +95,8 @@ returns c =
     let e = at-rounds .before .before .before in
     let ch = e .args .chain .now in
     let q = at-rounds .rounds .result in
-    all-joined (at-start .start .last .1 .0) (e .args .out .now) (at-book-len .book-len .result) (rounds (e .args .size))
-    (start-length _ _ (at-start .start .ensures)) (e .pre .1) (at-book-len .book-len .ensures) (at-groups .groups .last .1 .1 .1 .1 .0)
+    all-joined (at-start .start .last .1 .0) (e .args .out .now) (at-book-len .book-len .result - 1) (rounds (e .args .size))
+    (start-length _ _ (at-start .start .ensures)) (e .pre .1) (end at-book-len) (at-groups .groups .last .1 .1 .1 .1 .0)
     (groups-length _ _ _ _ (threeKeys _ _) (at-groups .groups .ensures))
     (at-round-parts .round-parts .last .1 .1 .1 .0)
     ∙ book-is (rounds (e .args .size)) q _ ch _ _ _ _ _ _ _ (at-rounds .rounds .ensures) (part-end ch (512 * (q + 1))) (part-end ch 512)
@@ -99,7 +105,7 @@ returns c =
 pub fill-spec : {M : Type 1} → statement M
 fill-spec =
     tie.close
-    (tie.spec (λ c κs. search needs) (λ c. search needs) (λ c. search needs) (λ c κs. search needs) (λ c κs. search needs)
+    (tie.spec (λ c κs. search needs) (λ c. search needs) (λ c. search needs) (λ c κs. search needs) (λ c κs. search needs) (λ c. search needs)
     (λ c. search needs) (λ c. search needs) (λ c. search needs) (λ c. search needs) (λ c. search needs) (λ c. search needs) start-requires
     (λ c. search needs) (λ c. search needs) (λ c. search needs) (λ c. search needs) (λ c. search needs) (λ c. search needs)
     (λ c. search needs) (λ c. search needs) (λ c. search needs) groups-requires (λ c. search needs) (λ c. search needs) part-round-parts-end

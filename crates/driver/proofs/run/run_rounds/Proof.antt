@@ -12,7 +12,7 @@ use Rattle.cipher.proofs.KeySizeLaws.{rounds-le}
 use Rattle.cipher.specs.Refusal.{numberOf}
 use Rattle.cipher.specs.declared.size.SizeFound.the-variants.{Found, Unknown}
 use Rattle.driver.specs.Driver.{admittedTold, admitAnswer, bodyLength}
-use Rattle.driver.proofs.AdmitLaws.{admitted-length}
+use Rattle.driver.proofs.AdmitLaws.{admitted-length, admitted-byte}
 use Rattle.driver.proofs.AnswerLaws.{whole, rounds-no-book, rounds-7, rounds-some, rounds-all}
 use Rattle.driver.proofs.run.run_rounds.Statement.{statement}
 use Rattle.driver.proofs.run.run_rounds.Tie as tie
@@ -33,6 +33,9 @@ returns c = c .refused .ensures ∙ sym (rounds-no-book _ _ _ (c .before .before
 
 returns-2 : tie.Need-returns-2
 returns-2 c = c .refused2 .ensures ∙ sym (rounds-7 _ _ _ _ (admitted (c .before .before)) (c .before .if1 .taken))
+
+body-requires : tie.Need-body-requires
+body-requires c κs = admitted-byte _ _ (admitted (c .before))
 
 rounds-requires-2 : tie.Need-rounds-requires-2
 rounds-requires-2 c κs =
@@ -72,5 +75,5 @@ returns-4 c =
 
 pub run-rounds-spec : {M : Type 1} → statement M
 run-rounds-spec = tie.close (tie.spec (λ c κs. search needs) (λ c. search needs) (λ c κs. search needs) returns (λ c. search needs)
-    (λ c κs. search needs) returns-2 (λ c κs. search needs) (λ c κs. search needs) (λ c κs. search needs) rounds-requires-2 (λ c κs. search needs)
+    (λ c κs. search needs) returns-2 body-requires (λ c κs. search needs) (λ c κs. search needs) rounds-requires-2 (λ c κs. search needs)
     returns-3 rounds-requires-3 (λ c κs. search needs) returns-4)

@@ -7,7 +7,7 @@ use Rattle.cipher.proofs.AnswerLaws.{text-known}
 use Rattle.cipher.specs.Refusal.{numberOf}
 use Rattle.cipher.specs.declared.size.SizeFound.the-variants.{Found, Unknown}
 use Rattle.driver.specs.Driver.{admittedTold, admitAnswer}
-use Rattle.driver.proofs.AdmitLaws.{admitted-length}
+use Rattle.driver.proofs.AdmitLaws.{admitted-length, admitted-byte}
 use Rattle.driver.proofs.AnswerLaws.{seal-no-book, seal-7, seal-8, seal-9, seal-made}
 use Rattle.driver.proofs.seal.seal.Statement.{statement}
 use Rattle.driver.proofs.seal.seal.Tie as tie
@@ -36,6 +36,9 @@ returns-4 c =
     let k = f .before .before in
     sym (seal-9 _ _ _ _ _ (admitted (k .before)) (k .if1 .left) (sym (f .before .bad-text .ensures) ∙ f .if2 .left) (c .if3 .taken))
 
+body-requires : tie.Need-body-requires
+body-requires c κs = admitted-byte _ _ (admitted (c .before .before .before .before))
+
 seal-blocks-requires : tie.Need-seal-blocks-requires
 seal-blocks-requires c κs =
     let b = c .before .before in
@@ -59,4 +62,4 @@ returns-5 c =
 
 pub seal-spec : {M : Type 1} → statement M
 seal-spec = tie.close (tie.spec (λ c κs. search needs) (λ c. search needs) returns (λ c. search needs) returns-2 (λ c κs. search needs) returns-3
-    returns-4 (λ c κs. search needs) (λ c κs. search needs) seal-blocks-requires (λ c. search needs) returns-5)
+    returns-4 body-requires (λ c κs. search needs) seal-blocks-requires (λ c. search needs) returns-5)

@@ -9,7 +9,7 @@ use Rattle.cipher.specs.Book.{startOf}
 use Rattle.cipher.specs.Refusal.{numberOf}
 use Rattle.cipher.specs.declared.size.SizeFound.the-variants.{Found, Unknown}
 use Rattle.driver.specs.Driver.{admittedTold, admitAnswer, fresh}
-use Rattle.driver.proofs.AdmitLaws.{admitted-length}
+use Rattle.driver.proofs.AdmitLaws.{admitted-length, admitted-byte}
 use Rattle.driver.proofs.AnswerLaws.{over-no-book, over-done}
 use Rattle.driver.proofs.session.begin_over.Statement.{statement}
 use Rattle.driver.proofs.session.begin_over.Tie as tie
@@ -24,6 +24,9 @@ admitted c = sym (c .before .before .admit .ensures) ∙ ap admittedTold (c .enu
 returns : tie.Need-returns
 returns c = c .kept .ensures ∙ sym (over-no-book _ _ (c .before .before .why .given .0 .0) (unread (c .before)))
 
+body-requires : tie.Need-body-requires
+body-requires c κs = admitted-byte _ _ (admitted c)
+
 block-at-requires : tie.Need-block-at-requires
 block-at-requires c κs =
     let l = ap length (c .body .ensures) ∙ admitted-length _ _ (admitted (c .before)) in
@@ -36,4 +39,4 @@ returns-2 c =
 
 pub begin-over-spec : {M : Type 1} → statement M
 begin-over-spec = tie.close (tie.spec (λ c κs. search needs) (λ c. search needs) (λ c κs. search needs) returns (λ c. search needs)
-    (λ c κs. search needs) block-at-requires returns-2)
+    body-requires block-at-requires returns-2)

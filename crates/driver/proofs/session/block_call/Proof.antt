@@ -6,7 +6,7 @@ use lib.ListN.{length}
 use Rattle.cipher.specs.Refusal.{numberOf}
 use Rattle.cipher.specs.declared.size.SizeFound.the-variants.{Found, Unknown}
 use Rattle.driver.specs.Driver.{admittedTold, admitAnswer}
-use Rattle.driver.proofs.AdmitLaws.{admitted-length}
+use Rattle.driver.proofs.AdmitLaws.{admitted-length, admitted-byte}
 use Rattle.driver.proofs.AnswerLaws.{block-no-book, block-7, block-21, block-22, block-made}
 use Rattle.driver.proofs.session.block_call.Statement.{statement}
 use Rattle.driver.proofs.session.block_call.Tie as tie
@@ -35,6 +35,9 @@ returns-4 c =
     let k = f .before in
     c .kept4 .ensures ∙ sym (block-22 _ _ _ _ (admitted (k .before)) (k .if1 .left) (f .if2 .left) (omega arith))
 
+body-requires : tie.Need-body-requires
+body-requires c κs = admitted-byte _ _ (admitted (c .before .before .before .before .before))
+
 pass-requires : tie.Need-pass-requires
 pass-requires c κs =
     let s = c .before .before .before .before .before .before .before in
@@ -50,5 +53,5 @@ returns-5 c =
 
 pub block-call-spec : {M : Type 1} → statement M
 block-call-spec = tie.close (tie.spec (λ c κs. search needs) (λ c. search needs) (λ c κs. search needs) returns (λ c. search needs)
-    (λ c κs. search needs) returns-2 (λ c κs. search needs) returns-3 (λ c κs. search needs) returns-4 (λ c κs. search needs) (λ c κs. search needs)
+    (λ c κs. search needs) returns-2 (λ c κs. search needs) returns-3 (λ c κs. search needs) returns-4 body-requires (λ c κs. search needs)
     pass-requires (λ c. search needs) returns-5)

@@ -6,7 +6,7 @@ use lib.ListN.{length}
 use Rattle.cipher.specs.Refusal.{numberOf}
 use Rattle.cipher.specs.declared.size.SizeFound.the-variants.{Found, Unknown}
 use Rattle.driver.specs.Driver.{admittedTold, admitAnswer}
-use Rattle.driver.proofs.AdmitLaws.{admitted-length}
+use Rattle.driver.proofs.AdmitLaws.{admitted-length, admitted-byte}
 use Rattle.driver.proofs.AnswerLaws.{last-no-book, last-7, last-10, last-21, last-made}
 use Rattle.driver.proofs.session.last_call.Statement.{statement}
 use Rattle.driver.proofs.session.last_call.Tie as tie
@@ -35,6 +35,9 @@ returns-4 c =
     let k = f .before in
     c .no-tag4 .ensures ∙ sym (last-21 _ _ _ _ _ (admitted (k .before)) (k .if1 .left) (f .if2 .left) (c .before .if3 .taken))
 
+body-requires : tie.Need-body-requires
+body-requires c κs = admitted-byte _ _ (admitted (c .before .before .before .before))
+
 pass-requires : tie.Need-pass-requires
 pass-requires c κs =
     let s = c .before .before .before .before .before .before in
@@ -50,5 +53,5 @@ returns-5 c =
 
 pub last-call-spec : {M : Type 1} → statement M
 last-call-spec = tie.close (tie.spec (λ c κs. search needs) (λ c. search needs) (λ c κs. search needs) returns (λ c. search needs)
-    (λ c κs. search needs) returns-2 (λ c κs. search needs) returns-3 (λ c κs. search needs) returns-4 (λ c. search needs) (λ c κs. search needs)
+    (λ c κs. search needs) returns-2 (λ c κs. search needs) returns-3 (λ c κs. search needs) returns-4 (λ c. search needs) body-requires
     (λ c κs. search needs) pass-requires returns-5)
