@@ -4,9 +4,9 @@
  * sessions and ink files, docs/SECURITY.md what a caller must see to.
  *
  * Every function but bowlinette_is_valid returns 0, or the number of a refusal. Where several refusals
- * apply, the lowest number is returned; of an ink file, the number of the first record at fault, and 9 comes
- * last. After a refusal nothing behind any pointer has changed; after a success only what the function's
- * pointers that are not to const refer to has.
+ * apply, the lowest number is returned, 33 counting as the next after 6; of an ink file, the number of the
+ * first record at fault, and 9 comes last. After a refusal nothing behind any pointer has changed; after a
+ * success only what the function's pointers that are not to const refer to has.
  *
  * All lengths count bytes. No pointer may be null, also where its length is 0, and what is written
  * must not overlap what is read. The functions keep nothing between calls and use no heap, so several
@@ -24,9 +24,9 @@ extern "C" {
 #endif
 
 /* The version of this interface. */
-#define BOWLINETTE_VERSION_MAJOR 1
-#define BOWLINETTE_VERSION_MINOR 3
-#define BOWLINETTE_VERSION "1.3"
+#define BOWLINETTE_VERSION_MAJOR 2
+#define BOWLINETTE_VERSION_MINOR 0
+#define BOWLINETTE_VERSION "2.0"
 
 /* What is returned. */
 #define BOWLINETTE_DONE 0
@@ -48,6 +48,8 @@ extern "C" {
                                                is missing, its head cut short, or a fifth remark */
 #define BOWLINETTE_REFUSED_RECORD_LENGTH 31 /* a record's length is not allowed, or past the file's end */
 #define BOWLINETTE_REFUSED_RANDOM 32        /* the random bytes ran out */
+#define BOWLINETTE_REFUSED_SIZE_BYTE 33     /* the first byte of the book is not the length of the key that
+                                               books of its length have */
 
 /* A block, in bytes, and the round keys of one round, in 32-bit words. */
 #define BOWLINETTE_BLOCK_LENGTH 16
@@ -101,19 +103,19 @@ extern "C" {
 #define BOWLINETTE_KEY_LENGTH_128 16
 #define BOWLINETTE_ROUNDS_128 24
 #define BOWLINETTE_CHAIN_LENGTH_128 23104
-#define BOWLINETTE_BOOK_LENGTH_128 466960
+#define BOWLINETTE_BOOK_LENGTH_128 466961
 #define BOWLINETTE_READING_LENGTH_128 450560
 
 #define BOWLINETTE_KEY_LENGTH_192 24
 #define BOWLINETTE_ROUNDS_192 28
 #define BOWLINETTE_CHAIN_LENGTH_192 26784
-#define BOWLINETTE_BOOK_LENGTH_192 540688
+#define BOWLINETTE_BOOK_LENGTH_192 540689
 #define BOWLINETTE_READING_LENGTH_192 524288
 
 #define BOWLINETTE_KEY_LENGTH_256 32
 #define BOWLINETTE_ROUNDS_256 32
 #define BOWLINETTE_CHAIN_LENGTH_256 30464
-#define BOWLINETTE_BOOK_LENGTH_256 614416
+#define BOWLINETTE_BOOK_LENGTH_256 614417
 #define BOWLINETTE_READING_LENGTH_256 598016
 
 /*
@@ -140,12 +142,14 @@ extern "C" {
 #define BOWLINETTE_ROUND_MASKS 384
 
 /*
- * Where the parts of a book begin: its start, group g of fold tables (g from 0 to 2), the tables of round
- * l. In a round come 24 add tables of 512 bytes, then 24 turn tables of 256.
+ * Where the parts of a book begin: the length of its key, in one byte, its start, group g of fold tables (g
+ * from 0 to 2), the tables of round l. In a round come 24 add tables of 512 bytes, then 24 turn tables of
+ * 256.
  */
-#define BOWLINETTE_BOOK_START 0
-#define BOWLINETTE_BOOK_GROUP(g) (16 + 8192 * (size_t)(g))
-#define BOWLINETTE_BOOK_ROUND(l) (24592 + 18432 * (size_t)(l))
+#define BOWLINETTE_BOOK_KEY_LENGTH 0
+#define BOWLINETTE_BOOK_START 1
+#define BOWLINETTE_BOOK_GROUP(g) (17 + 8192 * (size_t)(g))
+#define BOWLINETTE_BOOK_ROUND(l) (24593 + 18432 * (size_t)(l))
 #define BOWLINETTE_ROUND_TURNS 12288
 
 /*
@@ -200,6 +204,8 @@ static inline const char *bowlinette_text(uint32_t refusal)
                "the end of the file.";
     case BOWLINETTE_REFUSED_RANDOM:
         return "The random bytes ran out.";
+    case BOWLINETTE_REFUSED_SIZE_BYTE:
+        return "The first byte of the book is not the length of the key that books of its length have.";
     default:
         return "This number is not known.";
     }
@@ -293,7 +299,8 @@ uint32_t bowlinette_make_reading_chain(size_t key_length,
 
 /*
  * Builds the book of a key and a chain and writes it to the front of out, which may be longer: the
- * bytes after the book stay as they were. The chain and the book have the lengths above.
+ * bytes after the book stay as they were. The chain and the book have the lengths above. The book's first
+ * byte is the length of the key.
  * Refuses 1 (key length), 2 to 5 (the chain), then 9 (out shorter than the book).
  */
 uint32_t bowlinette_build(const uint8_t *key, size_t key_length,
@@ -343,9 +350,10 @@ uint32_t bowlinette_code_for_tag(const uint8_t *u, size_t u_length,
                                  uint64_t *length, uint8_t *kind);
 
 /*
- * The functions below use a book's length to know its rounds, and read its bytes as they are: of an
- * entry of an add or subtract table the bits 0 to 4, of any other entry the bits 0 to 3. Blocks go in
- * and come out coded.
+ * The functions below use a book's length to know its rounds, and refuse by 33 a book whose first byte is
+ * not the length of the key that has these rounds; the tables of a round, and reading books, have no such
+ * byte. All other bytes they read as they are: of an entry of an add or subtract table the bits 0 to 4, of
+ * any other entry the bits 0 to 3. Blocks go in and come out coded.
  *
  * Takes one block through the tables of one round, 18,432 bytes, and writes the 16 bytes that stand
  * after it to out.
@@ -358,7 +366,7 @@ uint32_t bowlinette_run_round(const uint8_t *tables, size_t tables_length,
 /*
  * Takes one block through the first rounds of a book and writes the 16 bytes that stand after them
  * to out. With 0 rounds that is the block; a count above the book's rounds means all of them.
- * Refuses 6 (book length), then 7 (block length).
+ * Refuses 6 (book length), 33 (its first byte), then 7 (block length).
  */
 uint32_t bowlinette_run_rounds(const uint8_t *book, size_t book_length,
                                size_t rounds,
@@ -369,8 +377,8 @@ uint32_t bowlinette_run_rounds(const uint8_t *book, size_t book_length,
  * Seals a message coded for sealing: from the IV, taken as coded by the last set, each block is folded
  * in, goes through the rounds and is written, to the front of out, which may be longer: the bytes
  * after them stay as they were. How many were written, as many as were read, goes to length.
- * Refuses 6 (book length), 7 (IV length), 8 (coded empty, over 1,048,576 bytes or no multiple of 16),
- * then 9 (out shorter than coded).
+ * Refuses 6 (book length), 33 (its first byte), 7 (IV length), 8 (coded empty, over 1,048,576 bytes or no
+ * multiple of 16), then 9 (out shorter than coded).
  */
 uint32_t bowlinette_seal(const uint8_t *book, size_t book_length,
                          const uint8_t *iv, size_t iv_length,
@@ -406,7 +414,7 @@ typedef struct bowlinette_session {
 
 /*
  * Begins a session, whatever it held: its block is the book's start, and it has taken no call.
- * Refuses 6 (book length).
+ * Refuses 6 (book length), then 33 (its first byte).
  */
 uint32_t bowlinette_begin(bowlinette_session *session,
                           const uint8_t *book, size_t book_length);
@@ -414,7 +422,8 @@ uint32_t bowlinette_begin(bowlinette_session *session,
 /*
  * A block call: folds the coded block into the session's, takes that through the rounds, and counts
  * one call more.
- * Refuses 6 (book length), 7 (block length), 21 (session finished), then 22 (65,535 calls taken).
+ * Refuses 6 (book length), 33 (its first byte), 7 (block length), 21 (session finished), then 22 (65,535
+ * calls taken).
  */
 uint32_t bowlinette_block_call(bowlinette_session *session,
                                const uint8_t *book, size_t book_length,
@@ -423,7 +432,7 @@ uint32_t bowlinette_block_call(bowlinette_session *session,
 /*
  * A last call: folds in the last coded block by its kind, takes that through the rounds and writes the
  * 16 bytes of the tag to tag. The session is then finished.
- * Refuses 6 (book length), 7 (block length), 10 (kind), then 21 (session finished).
+ * Refuses 6 (book length), 33 (its first byte), 7 (block length), 10 (kind), then 21 (session finished).
  */
 uint32_t bowlinette_last_call(bowlinette_session *session,
                               const uint8_t *book, size_t book_length,
