@@ -25,21 +25,24 @@ use Rattle.driver.specs.declared.session.TagAnswer.{TagAnswer}
 
 -- ---- rounds
 
--- whether the byte b in front of a book is the length of a key of the size that the book's length tells
+-- refusal 6: a book of none of the three lengths; a round's tables of another length than theirs
+abbrev pub bookLengthTests : List ℕ → List (Bool × ℕ)
+bookLengthTests bk = (not (eqb (length bk) (bookLength Bytes16) || eqb (length bk) (bookLength Bytes24) || eqb (length bk) (bookLength Bytes32)), 6) ∷ []
+
+abbrev pub tablesTests : List ℕ → List (Bool × ℕ)
+tablesTests t = (not (eqb (length t) roundLength), 6) ∷ []
+
+-- whether a byte is the length of a key, of the size that a book's length tells. Refusal 33: a book of which the first byte is not
 abbrev pub states : SizeFound → ℕ → Bool
 states (Found z) b = eqb b (keyLength z)
 states Unknown b = false
 
--- refusal 6: a book of none of the three lengths; a round's tables of another length than theirs. Refusal 33: a book whose first
--- byte does not belong to its length
-abbrev pub bookTests : List ℕ → List (Bool × ℕ)
-bookTests bk =
-    (not (eqb (length bk) (bookLength Bytes16) || eqb (length bk) (bookLength Bytes24) || eqb (length bk) (bookLength Bytes32)), 6)
-    ∷ (not (states (sizeOfBook (length bk)) (getD bk 0 0)), 33)
-    ∷ []
+abbrev pub sizeByteTests : List ℕ → List (Bool × ℕ)
+sizeByteTests bk = (not (states (sizeOfBook (length bk)) (getD bk 0 0)), 33) ∷ []
 
-abbrev pub tablesTests : List ℕ → List (Bool × ℕ)
-tablesTests t = (not (eqb (length t) roundLength), 6) ∷ []
+-- a book: its length, then its first byte
+abbrev pub bookTests : List ℕ → List (Bool × ℕ)
+bookTests bk = bookLengthTests bk ++ sizeByteTests bk
 
 -- the size of a book's key, or the number of the refusal; and admitting a book
 abbrev pub admittedTold : Admitted → ℕ × SizeFound
