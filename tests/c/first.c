@@ -39,7 +39,7 @@ int main(void)
     bowlinette_ink ink;
     uint64_t n;
 
-    /* the works, which has the key and makes the chain */
+    /* the works, which has the key and makes the chain; the book's first byte states the key's length */
     random_bytes(key, sizeof key);
     random_bytes(noise, sizeof noise);
     done("make chain", bowlinette_make_chain(sizeof key, noise, sizeof noise, chain, sizeof chain, &n));
