@@ -7,7 +7,7 @@ pub mod LentTheorem
 pub mod RoundsTheorem
 pub mod SealedText
 pub mod SealTheorem
-pub mod EarlierTheorem
+pub mod FirstByteTheorem
 pub mod ReviewTheorem
 pub mod InkTheorem
 pub mod CmacBlocks

@@ -1,4 +1,4 @@
--- Lowest number first: the tests of each operation follow document 01's order of refusals (specs/Order), as their numbers show.
+-- Lowest number first: the tests of each operation follow the one order of refusals (specs/Order), as their numbers show.
 use mathlib.Core.Path.{_≡_, refl}
 use mathlib.Core.Bool.{Bool, true}
 use mathlib.Core.List.{List}

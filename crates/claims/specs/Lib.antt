@@ -2,7 +2,7 @@ pub mod Model
 pub mod Calls
 pub mod Built
 pub mod Sealing
-pub mod Earlier
+pub mod FirstByte
 pub mod Review
 pub mod Tags
 pub mod Identity

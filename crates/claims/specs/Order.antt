@@ -1,5 +1,5 @@
--- Lowest number first (document 01, "Refusals from the input" and "from the state"): the refusals of every operation go by one order
--- of the numbers; those of an ink file at each record.
+-- Lowest number first (document 01, "Refusals from the input" and "from the state"), where document 02 gives its numbers no other place:
+-- the refusals of every operation go by one order of the numbers; those of an ink file at each record.
 use mathlib.Core.Bool.{Bool}
 use mathlib.Core.List.{List, _++_}
 use Prim.Native.Nat.{ℕ}
