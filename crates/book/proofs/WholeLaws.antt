@@ -1,10 +1,10 @@
--- The start, the groups and the rounds put together are the book.
+-- The start, the groups and the rounds put together are the body of the book, and with a byte before them the book.
 use mathlib.Core.Path.{_≡_, refl, sym, ap, ap₂, _∙_}
 use mathlib.Core.List.{List, [], _∷_, _++_, append-assoc}
 use Prim.Native.Nat.{ℕ, zero, suc, _+_, _-_, _*_, _≤_, _<_}
 use native.Mathlib.Nat.{le-of-eq}
 use native.Mathlib.Omega.{arith}
-use lib.ListN.{length, getD, set, take, drop, length-append, length-set, length-drop}
+use lib.ListN.{length, getD, set, take, drop, length-append, length-drop}
 use lib.Seq.{drop-at, length-take-le}
 use Rattle.lists.specs.Tabulation.{chunks}
 use Rattle.lists.specs.Blocks.{zeros}
@@ -85,23 +85,14 @@ module _ (x out : List ℕ) (n r : ℕ) (lx : length x ≡ 16) (room : length ou
       all-length lw = ap length all-joined ∙ length-append x (y ++ w) ∙ rw (length-append y w, lx, ly, lw) (omega arith)
 
 -- a byte b in front of out, and after it x up to the place m, written n
-module _ (b : ℕ) (x out : List ℕ) (n m : ℕ) (en : n ≡ m) (some : 1 ≤ m) (room : m ≤ length out) where
-  pub body-room : length (take (n - 1) (drop 1 (set out 0 b))) ≡ m - 1
-  body-room = length-take-le (n - 1) (drop 1 (set out 0 b)) (rw (length-drop 1 (set out 0 b), length-set out 0 b) (omega arith)) ∙ omega arith
+pub byte-joined : (b : ℕ) (x out : List ℕ) (n m : ℕ) → n ≡ m → 1 ≤ m → m ≤ length out
+    → take 1 (set out 0 b) ++ (x ++ drop (n - 1) (drop 1 (set out 0 b))) ≡ (b ∷ x) ++ drop m out
+byte-joined b x [] n m e some h = absurd (omega arith)
+byte-joined b x (o ∷ out) n m e some h =
+    let k : suc (n - 1) ≡ m = omega arith in
+    ap (λ (j : ℕ). b ∷ (x ++ drop j (o ∷ out))) k
 
-  pub byte-joined : take 1 (set out 0 b) ++ (x ++ drop (n - 1) (drop 1 (set out 0 b))) ≡ (b ∷ x) ++ drop m out
-  byte-joined = go out room
-    where
-      go : (o : List ℕ) → m ≤ length o → take 1 (set o 0 b) ++ (x ++ drop (n - 1) (drop 1 (set o 0 b))) ≡ (b ∷ x) ++ drop m o
-      go [] h = absurd (omega arith)
-      go (o ∷ os) h =
-          let k : suc (n - 1) ≡ m = omega arith in
-          ap (λ (j : ℕ). b ∷ (x ++ drop j (o ∷ os))) k
-
-  pub byte-length : length x ≡ m - 1 → length (take 1 (set out 0 b) ++ (x ++ drop (n - 1) (drop 1 (set out 0 b)))) ≡ length out
-  byte-length e = ap length byte-joined ∙ length-append (b ∷ x) (drop m out) ∙ rw (length-drop m out, e) (omega arith)
-
--- the parts are those of the book
+-- the parts are those of the body
 keys-are : (cipher : List ℕ → List ℕ) (g : ℕ) → threeKeys (subkey1 cipher) (subkey2 cipher) g ≡ groupKey cipher g
 unfolding threeKeys groupKey
 keys-are cipher zero = refl

@@ -29,7 +29,7 @@ fn fill(size: KeySize, chain: &[u8], rows: [[u32; 6]; 32], out: &mut [u8])
 {
     let last = lengths::SET * (size.rounds() + 1);
     let keys = subkeys(rows, size);
-    let end = size.book_len() - lengths::BODY;
+    let end = out.len();
     start(&chain[last..], &mut out[0..lengths::START]);
     groups(
         &chain[last..],

@@ -1,4 +1,4 @@
--- The book of rows and a chain holds at each offset the byte that it should; and what is said of these bytes leaves none
+-- The body of the book of rows and a chain holds at each offset the byte that it should; and what is said of these bytes leaves none
 -- of them open: it is said of one list alone.
 use mathlib.Core.Path.{_≡_, refl, sym, ap, _∙_}
 use mathlib.Core.List.{List, [], _++_}

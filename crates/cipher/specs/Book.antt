@@ -1,6 +1,6 @@
 -- The book (01's term) of tables that rows of round keys and a chain make, and where each part of it stands (document 01,
--- "Book"), with the byte in front that states the length of the key (document 02, 2026-05). All is said of any rows, and of a
--- book's body, which is document 01's book, for any number r of rounds.
+-- "Book"), with the byte in front that states the length of the key (document 02, 2026-05). What is behind that byte is the book's
+-- body, which is document 01's book: it is said of any rows and any number r of rounds, the whole book of a key size.
 use mathlib.Core.Path.{_≡_}
 use mathlib.Core.List.{List, [], _∷_, _++_}
 use Prim.Native.Nat.{ℕ, zero, suc, _+_, _*_, _<_}

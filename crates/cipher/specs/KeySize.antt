@@ -22,7 +22,7 @@ abbrev pub chainLength : KeySize → ℕ
 chainLength z = 1024 + 920 * rounds z
 
 abbrev pub bookLength : KeySize → ℕ
-bookLength z = 24593 + 18432 * rounds z
+bookLength z = 1 + (24592 + 18432 * rounds z)
 
 -- the size whose length, by `len`, is n
 unfoldable pub sizeBy : (KeySize → ℕ) → ℕ → SizeFound

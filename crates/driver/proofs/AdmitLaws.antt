@@ -21,7 +21,7 @@ use Rattle.cipher.specs.declared.size.SizeFound.the-variants.{Found, Unknown}
 use Rattle.cipher.proofs.KeySizeLaws.{found-length, none-of, one-of, size-of-book}
 use Rattle.cipher.proofs.AnswerLaws.{number-more}
 use Rattle.cipher.proofs.CheckLaws.{Numbered, told-clear, told-refused, clear-taken}
-use Rattle.driver.specs.Driver.{states, bookTests, admitAnswer, bodyLength}
+use Rattle.driver.specs.Driver.{belongs, bookTests, admitAnswer, bodyLength}
 
 module _ (bk : List ℕ) where
   numbered : Numbered (bookTests bk)
@@ -57,7 +57,7 @@ module _ (bk : List ℕ) where
     known : sizeOfBook (length bk) ≡ Found z
     known = ap sizeOfBook e ∙ size-of-book z
 
-    stated : (b : Bool) → eqb (getD bk 0 0) (keyLength z) ≡ b → not (states (sizeOfBook (length bk)) (getD bk 0 0)) ≡ not b
+    stated : (b : Bool) → eqb (getD bk 0 0) (keyLength z) ≡ b → not (belongs (sizeOfBook (length bk)) (getD bk 0 0)) ≡ not b
     stated b h = rw known (ap not h)
 
     pub byte-refused : (getD bk 0 0 ≡ keyLength z → ⊥) → admitAnswer bk ≡ (33, Unknown)

@@ -32,13 +32,14 @@ bookLengthTests bk = (not (eqb (length bk) (bookLength Bytes16) || eqb (length b
 abbrev pub tablesTests : List ℕ → List (Bool × ℕ)
 tablesTests t = (not (eqb (length t) roundLength), 6) ∷ []
 
--- whether a byte is the length of a key, of the size that a book's length tells. Refusal 33: a book of which the first byte is not
-abbrev pub states : SizeFound → ℕ → Bool
-states (Found z) b = eqb b (keyLength z)
-states Unknown b = false
+-- whether a byte belongs to a book's length: it is the length of a key of the size that the length tells. Refusal 33: a book whose
+-- first byte does not
+abbrev pub belongs : SizeFound → ℕ → Bool
+belongs (Found z) b = eqb b (keyLength z)
+belongs Unknown b = false
 
 abbrev pub sizeByteTests : List ℕ → List (Bool × ℕ)
-sizeByteTests bk = (not (states (sizeOfBook (length bk)) (getD bk 0 0)), 33) ∷ []
+sizeByteTests bk = (not (belongs (sizeOfBook (length bk)) (getD bk 0 0)), 33) ∷ []
 
 -- a book: its length, then its first byte
 abbrev pub bookTests : List ℕ → List (Bool × ℕ)

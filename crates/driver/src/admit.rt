@@ -17,8 +17,8 @@ pub enum Admitted {
     Refused(Refusal),
 }
 
-// The tests on a book: it has the length that goes with some key size, else 6, and its first byte states
-// that size, else 33.
+// The tests on a book: it has the length that goes with some key size, else 6, and its first byte is the
+// length of such a key, else 33.
 pub fn admit(book: &[u8]) -> Admitted
     ensures { λ r. ⌜ admittedTold r ≡ admitAnswer (now (book .entry)) ⌝ }
 {

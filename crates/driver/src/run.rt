@@ -1,6 +1,6 @@
 // Rounds on one block: by the tables of a single round, or by the first rounds of a book. Each refuses
-// tables of a wrong length (6), then a book that does not state its key's length (33), then a block that
-// is not of 16 bytes (7).
+// tables of a wrong length (6), then a block that is not of 16 bytes (7); between the two a book is
+// refused whose first byte does not belong to its length (33).
 ghost use mathlib.Core.Path.{_≡_};
 ghost use Rattle.cipher.specs.Answers.{blockTold};
 ghost use Rattle.driver.specs.Driver.{runRoundAnswer, runRoundsAnswer};

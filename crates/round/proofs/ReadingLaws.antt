@@ -4,12 +4,8 @@ use mathlib.Core.List.{List, _++_}
 use Prim.Native.Nat.{ℕ, _+_, _-_, _≤_}
 use native.Mathlib.Omega.{arith}
 use borrow.Rule.Slice.PartMut.{same-len-mid, mid-len}
-use lib.Dec.{lit≤}
 use lib.ListN.{length, take, drop, set, replicate, length-set, length-append}
 use lib.Seq.{length-take-le}
-use Rattle.cipher.specs.KeySize.{keyLength}
-use Rattle.cipher.specs.declared.size.KeySize.{KeySize}
-use Rattle.cipher.specs.declared.size.KeySize.the-variants.{Bytes16, Bytes24, Bytes32}
 use Rattle.io.specs.Counts.{Counts}
 use Rattle.round.specs.Text.{shown}
 
@@ -40,9 +36,3 @@ module _ (xs : List ℕ) (v n m : ℕ) (e : length xs ≡ m) (h : n ≤ m) where
     read-counts k a b =
         let d : length q ≡ n - 1 = l ∙ mid-len 1 n (set xs 0 v) room-left in
         counts (1 + k) m (take 1 (set xs 0 v) ++ (q ++ drop (n - 1) (drop 1 (set xs 0 v)))) (same-room ∙ e) (omega arith)
-
--- the longest key
-pub key-le : (z : KeySize) → keyLength z ≤ 32
-key-le Bytes16 = lit≤ tt
-key-le Bytes24 = lit≤ tt
-key-le Bytes32 = lit≤ tt

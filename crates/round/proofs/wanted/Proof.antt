@@ -4,9 +4,8 @@ use Prim.Native.Nat.{ℕ, _+_}
 use native.Mathlib.Omega.{arith}
 use borrow.Author.Needs.{needs}
 use Rattle.cipher.specs.KeySize.{sizeOfKey}
-use Rattle.cipher.proofs.KeySizeLaws.{rounds-le}
+use Rattle.cipher.proofs.KeySizeLaws.{rounds-le, key-le}
 use Rattle.round.specs.Round.{wantedOf}
-use Rattle.round.proofs.ReadingLaws.{key-le}
 use Rattle.round.proofs.wanted.Statement.{statement}
 use Rattle.round.proofs.wanted.Tie as tie
 

@@ -1,17 +1,17 @@
 -- `build::build` meets its contract.
-use mathlib.Core.Path.{_≡_, sym, ap, ap₂, _∙_}
-use mathlib.Core.List.{List, [], _∷_}
-use Prim.Native.Nat.{ℕ}
+use mathlib.Core.Path.{sym, ap, ap₂, _∙_}
+use mathlib.Core.List.{List, _∷_}
+use Prim.Native.Nat.{ℕ, _-_}
 use native.Mathlib.Omega.{arith}
 use borrow.Author.Needs.{needs}
-use lib.ListN.{length, length-set}
+use borrow.Rule.Slice.PartMut.{same-len-mid, mid-len}
+use lib.ListN.{set, length-set}
 use Rattle.cipher.specs.KeySize.{keyLength, rounds, bookLength}
 use Rattle.cipher.specs.Book.{bookOf}
 use Rattle.cipher.proofs.KeySizeLaws.{key-le, found-length}
 use Rattle.cipher.proofs.CheckLaws.{chain-checked}
-use Rattle.cipher.proofs.BookLaw.{book-size}
 use Rattle.book.proofs.AnswerLaws.{built-key, built-chain, built-room, built-done}
-use Rattle.book.proofs.WholeLaws.{body-room, byte-joined, byte-length}
+use Rattle.book.proofs.WholeLaws.{byte-joined}
 use Rattle.book.proofs.build.build.Statement.{statement}
 use Rattle.book.proofs.build.build.Tie as tie
 
@@ -63,16 +63,18 @@ part-fill-end c =
 fill-requires : tie.Need-fill-requires
 fill-requires c κs =
     let at-key-len = c .before in
-    let at-book-len = at-key-len .before .before .before in
+    let at-if2 = at-key-len .before .before in
+    let at-book-len = at-if2 .before in
     let at-if1 = at-book-len .before in
     let at-number = at-if1 .before in
     let at-check-sized = at-number .before in
     let at-size = at-check-sized .before .before in
-    let e = at-size .before .before .before .before .before .before in
+    let out = at-size .before .before .before .before .before .before .args .out .now in
     let b = at-book-len .book-len .ensures in
-    let z = at-size .size .given .0 .0 in (
+    let z = at-size .size .given .0 .0 in
+    let l = length-set out 0 (at-key-len .key-len .result) in (
       chain-checked z _ (sym (at-check-sized .check-sized .ensures) ∙ sym (at-number .number .ensures) ∙ at-if1 .if1 .left),
-      body-room (at-key-len .key-len .result) [] (e .args .out .now) (at-book-len .book-len .result) (bookLength z) b (omega arith) (omega arith) ∙ omega arith,
+      mid-len 1 (at-book-len .book-len .result) (set out 0 (at-key-len .key-len .result)) (omega (arith, at-if2 .if2 .left)) ∙ omega arith,
     )
 
 same-length : tie.Need-same-length
@@ -80,12 +82,9 @@ same-length c =
     let at-fill = c .before .before in
     let at-key-len = at-fill .before .before in
     let at-book-len = at-key-len .before .before .before in
-    let at-size = at-book-len .before .before .before .before .before in
-    let e = at-size .before .before .before .before .before .before in
-    let b = at-book-len .book-len .ensures in
-    let z = at-size .size .given .0 .0 in
-    byte-length (at-key-len .key-len .result) (at-fill .fill .last .1 .1 .1 .0) (e .args .out .now) (at-book-len .book-len .result) (bookLength z) b (omega arith) (omega arith)
-    (ap length (at-fill .fill .ensures) ∙ book-size (rounds z) _ (e .args .chain .now) ∙ omega arith)
+    let out = at-book-len .before .before .before .before .before .before .before .before .before .before .before .args .out .now in
+    let b = at-key-len .key-len .result in
+    same-len-mid 1 (at-book-len .book-len .result - 1) (set out 0 b) (at-fill .fill .last .1 .1 .1 .0) (at-fill .fill .kept .1 .1 .1 .0) ∙ length-set out 0 b
 
 returns-4 : tie.Need-returns-4
 returns-4 c =
@@ -101,7 +100,8 @@ returns-4 c =
     let e = at-of-key-len .before .before .before .before in
     let z = at-size .size .given .0 .0 in
     let b = at-book-len .book-len .ensures in
-    ap (λ (l : List ℕ). (0, l)) (byte-joined (at-key-len .key-len .result) (at-fill .fill .last .1 .1 .1 .0) (e .args .out .now) (at-book-len .book-len .result) (bookLength z) b (omega arith) (omega arith))
+    let whole = at-fill .fill .last .1 .1 .1 .0 in
+    ap (λ (l : List ℕ). (0, l)) (byte-joined (at-key-len .key-len .result) whole (e .args .out .now) (at-book-len .book-len .result) (bookLength z) b (omega arith) (omega arith))
     ∙ built-done _ _ _ _ _ _ _ z (sym (at-of-key-len .of-key-len .ensures) ∙ at-size .size .given .1)
     (chain-checked z _ (sym (at-check-sized .check-sized .ensures) ∙ sym (at-number .number .ensures) ∙ at-if1 .if1 .left))
     (omega arith) _

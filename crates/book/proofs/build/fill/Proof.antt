@@ -1,9 +1,10 @@
 -- `build::fill` meets its contract.
-use mathlib.Core.Path.{_≡_, _∙_}
-use Prim.Native.Nat.{_+_, _-_, _*_}
+use mathlib.Core.Path.{_∙_}
+use Prim.Native.Nat.{_+_, _*_}
 use native.Mathlib.Nat.{le-of-eq}
 use native.Mathlib.Omega.{arith}
 use borrow.Author.Needs.{needs}
+use lib.ListN.{length}
 use lib.Seq.{length-take-le}
 use Rattle.lists.proofs.PartLaws.{part-end}
 use Rattle.cipher.specs.KeySize.{rounds}
@@ -13,25 +14,18 @@ use Rattle.book.proofs.WholeLaws.{set-in, start-length, groups-length, 
 use Rattle.book.proofs.build.fill.Statement.{statement}
 use Rattle.book.proofs.build.fill.Tie as tie
 
--- where the body ends
-end : (c : tie.After-book-len) → c .book-len .result - 1 ≡ 24592 + 18432 * rounds (c .before .before .before .before .before .args .size)
-end c =
-    let b = c .book-len .ensures in
-    omega arith
-
 start-requires : tie.Need-start-requires
 start-requires c κs =
-    let e = c .before .before .before .before .before .before .before in
+    let e = c .before .before .before .before .before .before in
     let ch = e .args .chain .now in
-    let q = c .before .before .before .before .rounds .result in
-    let s = set-in (e .args .size) ch _ q (e .pre .0) (le-of-eq (c .before .before .before .before .rounds .ensures)) (part-end ch (512 * (q + 1))) in
+    let q = c .before .before .before .rounds .result in
+    let s = set-in (e .args .size) ch _ q (e .pre .0) (le-of-eq (c .before .before .before .rounds .ensures)) (part-end ch (512 * (q + 1))) in
     (s .0, s .1, length-take-le 16 (e .args .out .now) (omega arith))
 
 groups-requires : tie.Need-groups-requires
 groups-requires c κs =
     let at-start = c .before .before .before .before .before in
-    let at-book-len = at-start .before .before .before in
-    let at-rounds = at-book-len .before .before in
+    let at-rounds = at-start .before .before .before .before in
     let e = at-rounds .before .before .before in
     let ch = e .args .chain .now in
     let q = at-rounds .rounds .result in
@@ -42,19 +36,18 @@ groups-requires c κs =
       omega (arith, e .pre .0 .size),
       after-first ch (omega (arith, e .pre .0 .size)),
       groups-room (at-start .start .last .1 .0) (e .args .out .now) _ (rounds (e .args .size)) (start-length _ _ (at-start .start .ensures)) (e .pre .1)
-          (end at-book-len),
+          (e .pre .1),
     )
 
 part-round-parts-end : tie.Need-part-round-parts-end
 part-round-parts-end c =
     let at-groups = c .before .before in
     let at-start = at-groups .before .before .before .before .before .before in
-    let at-book-len = at-start .before .before .before in
-    let e = at-book-len .before .before .before .before .before in
-    let n = end at-book-len in
+    let e = at-start .before .before .before .before .before .before .before in
+    let n = e .pre .1 in
     let s = start-length _ _ (at-start .start .ensures) in
     let g = groups-length _ _ _ _ (threeKeys _ _) (at-groups .groups .ensures) in
-    let m = after-length (at-start .start .last .1 .0) (e .args .out .now) (at-book-len .book-len .result - 1) (rounds (e .args .size)) s (e .pre .1) n
+    let m = after-length (at-start .start .last .1 .0) (e .args .out .now) (length (e .args .out .now)) (rounds (e .args .size)) s (e .pre .1) n
     (at-groups .groups .last .1 .1 .1 .1 .0) g in
     omega (arith, n, m)
 
@@ -62,13 +55,12 @@ round-parts-requires : tie.Need-round-parts-requires
 round-parts-requires c κs =
     let at-groups = c .before .before .before in
     let at-start = at-groups .before .before .before .before .before .before in
-    let at-book-len = at-start .before .before .before in
-    let e = at-book-len .before .before .before .before .before in
-    let n = end at-book-len in
+    let e = at-start .before .before .before .before .before .before .before in
+    let n = e .pre .1 in
     let s = start-length _ _ (at-start .start .ensures) in
     let g = groups-length _ _ _ _ (threeKeys _ _) (at-groups .groups .ensures) in (
       e .pre .0,
-      rounds-room (at-start .start .last .1 .0) (e .args .out .now) (at-book-len .book-len .result - 1) (rounds (e .args .size)) s (e .pre .1) n
+      rounds-room (at-start .start .last .1 .0) (e .args .out .now) (length (e .args .out .now)) (rounds (e .args .size)) s (e .pre .1) n
           (at-groups .groups .last .1 .1 .1 .1 .0) g,
     )
 
@@ -77,10 +69,9 @@ same-length c =
     let at-round-parts = c .before .before in
     let at-groups = at-round-parts .before .before .before .before in
     let at-start = at-groups .before .before .before .before .before .before in
-    let at-book-len = at-start .before .before .before in
-    let e = at-book-len .before .before .before .before .before in
-    all-length (at-start .start .last .1 .0) (e .args .out .now) (at-book-len .book-len .result - 1) (rounds (e .args .size))
-    (start-length _ _ (at-start .start .ensures)) (e .pre .1) (end at-book-len) (at-groups .groups .last .1 .1 .1 .1 .0)
+    let e = at-start .before .before .before .before .before .before .before in
+    all-length (at-start .start .last .1 .0) (e .args .out .now) (length (e .args .out .now)) (rounds (e .args .size))
+    (start-length _ _ (at-start .start .ensures)) (e .pre .1) (e .pre .1) (at-groups .groups .last .1 .1 .1 .1 .0)
     (groups-length _ _ _ _ (threeKeys _ _) (at-groups .groups .ensures))
     (at-round-parts .round-parts .last .1 .1 .1 .0) (rounds-length _ (rounds (e .args .size)) _ _ (at-round-parts .round-parts .ensures))
 
@@ -89,14 +80,13 @@ returns c =
     let at-round-parts = c .before .before in
     let at-groups = at-round-parts .before .before .before .before in
     let at-start = at-groups .before .before .before .before .before .before in
-    let at-book-len = at-start .before .before .before in
-    let at-subkeys = at-book-len .before in
+    let at-subkeys = at-start .before .before .before in
     let at-rounds = at-subkeys .before in
     let e = at-rounds .before .before .before in
     let ch = e .args .chain .now in
     let q = at-rounds .rounds .result in
-    all-joined (at-start .start .last .1 .0) (e .args .out .now) (at-book-len .book-len .result - 1) (rounds (e .args .size))
-    (start-length _ _ (at-start .start .ensures)) (e .pre .1) (end at-book-len) (at-groups .groups .last .1 .1 .1 .1 .0)
+    all-joined (at-start .start .last .1 .0) (e .args .out .now) (length (e .args .out .now)) (rounds (e .args .size))
+    (start-length _ _ (at-start .start .ensures)) (e .pre .1) (e .pre .1) (at-groups .groups .last .1 .1 .1 .1 .0)
     (groups-length _ _ _ _ (threeKeys _ _) (at-groups .groups .ensures))
     (at-round-parts .round-parts .last .1 .1 .1 .0)
     ∙ book-is (rounds (e .args .size)) q _ ch _ _ _ _ _ _ _ (at-rounds .rounds .ensures) (part-end ch (512 * (q + 1))) (part-end ch 512)
@@ -105,7 +95,7 @@ returns c =
 pub fill-spec : {M : Type 1} → statement M
 fill-spec =
     tie.close
-    (tie.spec (λ c κs. search needs) (λ c. search needs) (λ c. search needs) (λ c κs. search needs) (λ c κs. search needs) (λ c. search needs)
+    (tie.spec (λ c κs. search needs) (λ c. search needs) (λ c. search needs) (λ c κs. search needs)
     (λ c. search needs) (λ c. search needs) (λ c. search needs) (λ c. search needs) (λ c. search needs) (λ c. search needs) start-requires
     (λ c. search needs) (λ c. search needs) (λ c. search needs) (λ c. search needs) (λ c. search needs) (λ c. search needs)
     (λ c. search needs) (λ c. search needs) (λ c. search needs) groups-requires (λ c. search needs) (λ c. search needs) part-round-parts-end
