@@ -48,8 +48,8 @@ extern "C" {
                                                is missing, its head cut short, or a fifth remark */
 #define BOWLINETTE_REFUSED_RECORD_LENGTH 31 /* a record's length is not allowed, or past the file's end */
 #define BOWLINETTE_REFUSED_RANDOM 32        /* the random bytes ran out */
-#define BOWLINETTE_REFUSED_SIZE_BYTE 33     /* the first byte of the book is not the length of the key that
-                                               books of its length have */
+#define BOWLINETTE_REFUSED_SIZE_BYTE 33     /* the first byte of the book is not the key length that goes with
+                                               the length of the book */
 
 /* A block, in bytes, and the round keys of one round, in 32-bit words. */
 #define BOWLINETTE_BLOCK_LENGTH 16
@@ -146,7 +146,7 @@ extern "C" {
  * from 0 to 2), the tables of round l. In a round come 24 add tables of 512 bytes, then 24 turn tables of
  * 256.
  */
-#define BOWLINETTE_BOOK_KEY_LENGTH 0
+#define BOWLINETTE_BOOK_SIZE_BYTE 0
 #define BOWLINETTE_BOOK_START 1
 #define BOWLINETTE_BOOK_GROUP(g) (17 + 8192 * (size_t)(g))
 #define BOWLINETTE_BOOK_ROUND(l) (24593 + 18432 * (size_t)(l))
@@ -205,7 +205,7 @@ static inline const char *bowlinette_text(uint32_t refusal)
     case BOWLINETTE_REFUSED_RANDOM:
         return "The random bytes ran out.";
     case BOWLINETTE_REFUSED_SIZE_BYTE:
-        return "The first byte of the book is not the length of the key that books of its length have.";
+        return "The first byte of the book is not the key length that goes with the length of the book.";
     default:
         return "This number is not known.";
     }
@@ -351,9 +351,9 @@ uint32_t bowlinette_code_for_tag(const uint8_t *u, size_t u_length,
 
 /*
  * The functions below use a book's length to know its rounds, and refuse by 33 a book whose first byte is
- * not the length of the key that has these rounds; the tables of a round, and reading books, have no such
- * byte. All other bytes they read as they are: of an entry of an add or subtract table the bits 0 to 4, of
- * any other entry the bits 0 to 3. Blocks go in and come out coded.
+ * not the length of keys with so many rounds; the tables of a round, and reading books, have no such byte.
+ * All other bytes they read as they are: of an entry of an add or subtract table the bits 0 to 4, of any
+ * other entry the bits 0 to 3. Blocks go in and come out coded.
  *
  * Takes one block through the tables of one round, 18,432 bytes, and writes the 16 bytes that stand
  * after it to out.
