@@ -84,7 +84,7 @@ static void codes(void)
     printf(" %d\n", BOWLINETTE_CODE_LENGTH_MAX == BOWLINETTE_MESSAGE_LENGTH_MAX + 1);
 }
 
-/* Every function of the driver on bytes of a book's length, which are no book's. */
+/* Every function of the driver on bytes of a book's length, of which only the first is a book's; and refused. */
 static void driver(void)
 {
     static uint8_t book[BOWLINETTE_BOOK_LENGTH_192], coded[2 * BOWLINETTE_BLOCK_LENGTH];
@@ -96,15 +96,19 @@ static void driver(void)
 
     for (i = 0; i < sizeof book; i++)
         book[i] = (uint8_t)(i % 251 * 77);
+    book[BOWLINETTE_BOOK_SIZE_BYTE] = BOWLINETTE_KEY_LENGTH_192;
     for (i = 0; i < sizeof coded; i++)
         coded[i] = (uint8_t)(13 * i);
-    show(bowlinette_run_round(book, BOWLINETTE_ROUND_LENGTH, coded, one, out), out);
+    show(bowlinette_run_round(book + BOWLINETTE_BOOK_ROUND(0), BOWLINETTE_ROUND_LENGTH, coded, one, out), out);
     show(bowlinette_run_rounds(book, length, BOWLINETTE_ROUNDS_192, coded, one, out), out);
     show(bowlinette_seal(book, length, coded, one, coded, 2 * one, out, sizeof out, &written), out + one);
     printf("%d\n", written == 2 * one);
     printf("%d", bowlinette_begin(&session, book, length) == BOWLINETTE_DONE);
     printf(" %d\n", bowlinette_block_call(&session, book, length, coded, one) == BOWLINETTE_DONE);
     show(bowlinette_last_call(&session, book, length, coded + one, one, BOWLINETTE_KIND_PADDED, out), out);
+    book[BOWLINETTE_BOOK_SIZE_BYTE] = BOWLINETTE_KEY_LENGTH_128;
+    printf("%d", bowlinette_begin(&session, book, length) == BOWLINETTE_REFUSED_SIZE_BYTE);
+    printf(" %d\n", bowlinette_begin(&session, book, length - 1) == BOWLINETTE_REFUSED_BOOK_LENGTH);
 }
 
 /* A reading book of identity codings, which deciphers, and two blocks read by it. */

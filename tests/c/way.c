@@ -159,7 +159,7 @@ static void works(const struct size *s)
     CHECK(bowlinette_check_set(chain, SET) == BOWLINETTE_DONE);
     memset(book, FILL, sizeof book);
     CHECK(bowlinette_build(key, s->key, chain, s->chain, book, sizeof book) == BOWLINETTE_DONE);
-    CHECK(book[s->book] == FILL);
+    CHECK(book[BOWLINETTE_BOOK_SIZE_BYTE] == s->key && book[s->book] == FILL);
     fresh();
     CHECK(bowlinette_build_round(key, s->key, chain, s->chain, s->rounds + 1, room.bytes, sizeof room.bytes) == BOWLINETTE_DONE);
     CHECK(untouched(BOWLINETTE_ROUND_LENGTH));
@@ -285,6 +285,8 @@ static void offsets(const struct size *s)
 
     CHECK(BOWLINETTE_CHAIN_SET(r) + SET == BOWLINETTE_CHAIN_ROUND(r, 0));
     CHECK(BOWLINETTE_CHAIN_ROUND(r, r) == s->chain);
+    CHECK(BOWLINETTE_BOOK_SIZE_BYTE == 0 && BOWLINETTE_BOOK_START == 1);
+    CHECK(BOWLINETTE_BOOK_START + BLOCK == BOWLINETTE_BOOK_GROUP(0));
     CHECK(BOWLINETTE_BOOK_GROUP(3) == BOWLINETTE_BOOK_ROUND(0));
     CHECK(BOWLINETTE_BOOK_ROUND(r) == s->book);
     CHECK(BOWLINETTE_READING_ROUND(r) == s->folds);
@@ -303,7 +305,7 @@ static void version(void)
 /* Every number has a sentence of its own, and a number that is none says so. */
 static void texts(void)
 {
-    static const uint32_t numbers[] = {0, 1, 2, 3, 4, 5, 6, 7, 8, 9, 10, 11, 21, 22, 30, 31, 32, 99};
+    static const uint32_t numbers[] = {0, 1, 2, 3, 4, 5, 6, 7, 8, 9, 10, 11, 21, 22, 30, 31, 32, 33, 99};
     size_t i, k;
 
     for (i = 0; i < sizeof numbers / sizeof numbers[0]; i++)
@@ -510,6 +512,7 @@ static void refusals_of_a_session(const struct size *s)
 
     SESSION_REFUSED(6, bowlinette_begin(&session, book, s->book - 1));
     CHECK(bowlinette_begin(&session, book, s->book) == BOWLINETTE_DONE);
+    CHECK(memcmp(session.bytes, book + BOWLINETTE_BOOK_START, BLOCK) == 0);
     plain = session;
     CHECK(bowlinette_last_call(&plain, book, s->book, iv, BLOCK, 0, want) == BOWLINETTE_DONE);
     SESSION_REFUSED(6, bowlinette_block_call(&session, book, 1, iv, BLOCK - 1));
@@ -528,6 +531,44 @@ static void refusals_of_a_session(const struct size *s)
     CHECK(i == BOWLINETTE_BLOCK_CALLS_MAX);
     SESSION_REFUSED(22, bowlinette_block_call(&session, book, s->book, iv, BLOCK));
     CHECK(bowlinette_last_call(&session, book, s->book, iv, BLOCK, 1, room.bytes) == BOWLINETTE_DONE);
+}
+
+/* The book with another first byte, in every call that takes one: 33, which comes after 6 and before the others. */
+static void first_byte_refused(const struct size *s, uint8_t with)
+{
+    bowlinette_session session = {{0}};
+    const size_t n = s->book;
+
+    book[BOWLINETTE_BOOK_SIZE_BYTE] = with;
+    REFUSED(6, bowlinette_run_rounds(book, n - 1, 5, iv, BLOCK, room.bytes));
+    REFUSED(33, bowlinette_run_rounds(book, n, 5, iv, BLOCK, room.bytes));
+    REFUSED(33, bowlinette_run_rounds(book, n, 5, iv, BLOCK - 1, room.bytes));
+    REFUSED(6, bowlinette_seal(book, n - 1, iv, BLOCK, coded, BLOCK, room.bytes, BLOCK, &room.length));
+    REFUSED(33, bowlinette_seal(book, n, iv, BLOCK, coded, BLOCK, room.bytes, BLOCK, &room.length));
+    REFUSED(33, bowlinette_seal(book, n, iv, 0, coded, 0, room.bytes, 0, &room.length));
+    SESSION_REFUSED(6, bowlinette_begin(&session, book, n - 1));
+    SESSION_REFUSED(33, bowlinette_begin(&session, book, n));
+    SESSION_REFUSED(6, bowlinette_block_call(&session, book, n - 1, iv, BLOCK));
+    SESSION_REFUSED(33, bowlinette_block_call(&session, book, n, iv, BLOCK));
+    SESSION_REFUSED(33, bowlinette_block_call(&session, book, n, iv, BLOCK - 1));
+    SESSION_REFUSED(6, bowlinette_last_call(&session, book, n - 1, iv, BLOCK, 0, room.bytes));
+    SESSION_REFUSED(33, bowlinette_last_call(&session, book, n, iv, BLOCK, 0, room.bytes));
+    SESSION_REFUSED(33, bowlinette_last_call(&session, book, n, iv, 0, 2, room.bytes));
+    book[BOWLINETTE_BOOK_SIZE_BYTE] = (uint8_t)s->key;
+}
+
+/* The first bytes of the other books, and bytes that are no book's; a single round has no such byte. */
+static void refusals_of_the_first_byte(const struct size *s)
+{
+    static const uint8_t bytes[] = {16, 24, 32, 0, 15, 17, 48, 144, 255};
+    size_t i;
+
+    for (i = 0; i < sizeof bytes; i++)
+        if (bytes[i] != s->key)
+            first_byte_refused(s, bytes[i]);
+    CHECK(bowlinette_run_rounds(book, s->book, 5, iv, BLOCK, room.bytes) == BOWLINETTE_DONE);
+    CHECK(bowlinette_run_round(book + BOWLINETTE_BOOK_ROUND(0), BOWLINETTE_ROUND_LENGTH, iv, BLOCK, room.bytes) == BOWLINETTE_DONE);
+    REFUSED(6, bowlinette_run_round(book + BOWLINETTE_BOOK_ROUND(0) - 1, BOWLINETTE_ROUND_LENGTH + 1, iv, BLOCK, room.bytes));
 }
 
 /* Refusals 1, 2, 3, 7, 8, 9 and 11 of the archive. */
@@ -817,6 +858,7 @@ int main(void)
         refusals_of_the_pad();
         refusals_of_the_driver(s);
         refusals_of_a_session(s);
+        refusals_of_the_first_byte(s);
         refusals_of_the_archive(s);
     }
     ink_numbers();

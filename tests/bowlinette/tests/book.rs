@@ -1,11 +1,11 @@
 //! Books, single rounds of them and reading books, on both versions: every byte, each refusal, and what
 //! stays as it was.
 
-use reference::book::{ADD, FOLD, GROUP, ROUND, START};
+use reference::book::{ADD, FOLD, ROUND};
 use reference::chain::{self, CODING, MIDDLES, SET, WORD};
 use reference::{lea, Size};
 use shared::book::{build, build_reading, build_round};
-use shared::{chains, places, Random, FILL};
+use shared::{books, chains, places, Random, FILL};
 
 /// What is built.
 #[derive(Clone, Copy, Debug, PartialEq)]
@@ -90,9 +90,9 @@ fn rounds_of_a_book() {
         let (_, book) = case.book(case.bytes());
         for number in (0..3 * rounds).chain([1 << 32, usize::MAX]) {
             let (told, tables) = case.round(number, ROUND);
-            let at = START + 3 * GROUP + ROUND * (number % rounds);
             assert_eq!(told, 0);
-            assert!(tables == book[at..][..ROUND], "{size:?}, round {number}");
+            let same = tables == books::round(&book, number % rounds);
+            assert!(same, "{size:?}, round {number}");
         }
     });
 }

@@ -1,19 +1,14 @@
 //! Rounds, sealing and reading from books on both versions: books of random keys and chains, and random
 //! bytes of a book's length. What is written, each refusal, and what stays as it was.
 
-use reference::book::{ADD, GROUP, ROUND, START};
+use reference::book::{ADD, FRONT, GROUP, ROUND, START};
 use reference::chain::{self, MIDDLES};
 use reference::driver::LONGEST;
 use reference::lea::{self, Block};
 use reference::Size;
 use shared::books::Books;
 use shared::driver::{read, round, rounds, seal, Pass};
-use shared::{books, Random, FILL};
-
-/// The tables of round l of a book.
-fn tables(book: &[u8], l: usize) -> &[u8] {
-    &book[START + 3 * GROUP + ROUND * l..][..ROUND]
-}
+use shared::{books, first, Random, FILL};
 
 /// Each count of rounds, and on from each by the tables of the next.
 #[test]
@@ -26,7 +21,7 @@ fn rounds_of_any_count() {
             let mut x = rounds(&book, 0, &block).unwrap();
             assert_eq!(x, block, "no rounds");
             for l in 0..r {
-                x = round(tables(&book, l), &x).unwrap();
+                x = round(books::round(&book, l), &x).unwrap();
                 assert_eq!(rounds(&book, l + 1, &block), Ok(x), "{size:?}, {l}");
             }
             for more in [r + 1, r + 2, 2 * r, 255, 256, 1 << 32, usize::MAX] {
@@ -87,7 +82,7 @@ fn the_example_of_two_rounds() {
 
 /// The bits that a reader does not use of the byte at a place of a book.
 fn unused(at: usize) -> u8 {
-    match at.checked_sub(START) {
+    match at.checked_sub(FRONT + START) {
         None => 0,
         Some(k) if k >= 3 * GROUP && (k - 3 * GROUP) % ROUND < MIDDLES * ADD => 0xe0,
         Some(_) => 0xf0,
@@ -113,31 +108,34 @@ fn bits_that_a_reader_does_not_use() {
 fn book_lengths() -> Vec<usize> {
     let near = |s: Size| [1, 16, 65_536].map(|n| [s.book_bytes() - n, s.book_bytes() + n]);
     let mut lengths: Vec<usize> = Size::ALL.into_iter().flat_map(near).flatten().collect();
-    lengths.extend((0..=40).map(|n| START + 3 * GROUP + ROUND * n));
-    lengths.extend([0, 1, START, ROUND]);
+    lengths.extend((0..=40).map(|n| books::ROUNDS + ROUND * n));
+    lengths.extend([0, 1, START, FRONT + START, ROUND]);
     lengths
 }
 
 /// Lengths near that of a block, and some that differ from it only above the low bits.
 const BLOCKS: [usize; 9] = [0, 1, 8, 15, 16, 17, 32, 272, 65_552];
 
-/// The first number, if any, of those whose reason holds.
-fn first(reasons: &[(u32, bool)]) -> u32 {
-    let fits = reasons.iter().find(|(_, holds)| *holds);
-    fits.map_or(0, |&(number, _)| number)
+/// Each count of rounds of a book with blocks of several lengths.
+fn rounds_refused(book: &[u8], text: &[u8]) {
+    let [length, byte] = books::reasons(book);
+    for b in BLOCKS {
+        let due = first(&[length, byte, (7, b != 16)]);
+        for count in [0, 1, 24, usize::MAX] {
+            let told = rounds(book, count, &text[..b]);
+            let given = (book.len(), book.first(), b);
+            assert_eq!(told.err().unwrap_or(0), due, "book and block {given:?}");
+        }
+    }
 }
 
 #[test]
 fn lengths_of_books_and_blocks() {
     let mut random = Random(74);
-    let (bytes, text) = (random.bytes(800_000), random.bytes(65_552));
-    for n in book_lengths() {
-        for b in BLOCKS {
-            let due = first(&[(6, !KINDS[0].lengths.contains(&n)), (7, b != 16)]);
-            for count in [0, 1, 24, usize::MAX] {
-                let told = rounds(&bytes[..n], count, &text[..b]);
-                assert_eq!(told.err().unwrap_or(0), due, "book of {n}, block of {b}");
-            }
+    let (given, text) = (books::fronts(&mut random), random.bytes(65_552));
+    for bytes in &given {
+        for n in book_lengths() {
+            rounds_refused(&bytes[..n], &text);
         }
     }
 }
@@ -161,23 +159,35 @@ struct Kind {
     name: &'static str,
     books: fn(&mut Random) -> Books,
     lengths: [usize; 3],
+    /// What is refused of a book.
+    reasons: fn(&[u8]) -> [(u32, bool); 2],
     /// What a book has beside its rounds.
     beside: usize,
     run: Pass,
+}
+
+/// The lengths of reading books.
+const READING: [usize; 3] = [450_560, 524_288, 598_016];
+
+/// Of a reading book the length alone: its first byte is a table's.
+fn reading_reasons(book: &[u8]) -> [(u32, bool); 2] {
+    [(6, !READING.contains(&book.len())), (33, false)]
 }
 
 const KINDS: [Kind; 2] = [
     Kind {
         name: "seal",
         books: books::any,
-        lengths: [466_960, 540_688, 614_416],
-        beside: START + 3 * GROUP,
+        lengths: books::LENGTHS,
+        reasons: books::reasons,
+        beside: books::ROUNDS,
         run: seal,
     },
     Kind {
         name: "read",
         books: books::any_reading,
-        lengths: [450_560, 524_288, 598_016],
+        lengths: READING,
+        reasons: reading_reasons,
         beside: GROUP,
         run: read,
     },
@@ -238,52 +248,62 @@ fn the_longest_messages() {
     }
 }
 
-/// All reasons at once and every part of them: the lowest number.
-fn refused(kind: &Kind, random: &mut Random) {
-    let (bytes, iv) = (random.bytes(700_000), random.bytes(32));
-    let text = random.bytes(LONGEST + 16);
-    let others = KINDS.iter().flat_map(|other| other.lengths);
-    let near = kind.lengths.into_iter().flat_map(|n| [n - 1, n + 1]);
-    for n in others.chain(near).chain([0]) {
-        for v in [16, 0, 15, 17, 32] {
-            for m in [
-                16,
-                48,
-                0,
-                1,
-                15,
-                17,
-                47,
-                LONGEST - 15,
-                LONGEST + 1,
-                LONGEST + 16,
-            ] {
-                for room in [m, 0, m.saturating_sub(1), m + 1] {
-                    let length = m == 0 || m > 1_048_576 || m % 16 != 0;
-                    let reasons = [
-                        (6, !kind.lengths.contains(&n)),
-                        (7, v != 16),
-                        (8, length),
-                        (9, room < m),
-                    ];
-                    let (number, _) = (kind.run)(&bytes[..n], &iv[..v], &text[..m], room);
-                    let given = (kind.name, n, v, m, room);
-                    assert_eq!(number, first(&reasons), "{given:?}");
-                }
+/// A book with IVs, messages and buffers of right and wrong lengths: the first reason.
+fn passes_refused(kind: &Kind, book: &[u8], iv: &[u8], text: &[u8]) {
+    let [length, byte] = (kind.reasons)(book);
+    for v in [16, 0, 15, 17, 32] {
+        for m in [
+            16,
+            48,
+            0,
+            1,
+            15,
+            17,
+            47,
+            LONGEST - 15,
+            LONGEST + 1,
+            LONGEST + 16,
+        ] {
+            for room in [m, 0, m.saturating_sub(1), m + 1] {
+                let message = m == 0 || m > 1_048_576 || m % 16 != 0;
+                let reasons = [length, byte, (7, v != 16), (8, message), (9, room < m)];
+                let (number, _) = (kind.run)(book, &iv[..v], &text[..m], room);
+                let given = (kind.name, book.len(), book.first(), v, m, room);
+                assert_eq!(number, first(&reasons), "{given:?}");
             }
         }
     }
 }
 
-/// Books of every count of rounds: but for three counts, no book has that length.
+/// All reasons at once and every part of them.
+fn refused(kind: &Kind, random: &mut Random) {
+    let (given, iv) = (books::fronts(random), random.bytes(32));
+    let text = random.bytes(LONGEST + 16);
+    let others = KINDS.iter().flat_map(|other| other.lengths);
+    let near = kind.lengths.into_iter().flat_map(|n| [n - 1, n + 1]);
+    for n in others.chain(near).chain([0]) {
+        for bytes in &given {
+            passes_refused(kind, &bytes[..n], &iv, &text);
+        }
+    }
+}
+
+/// Books of every count of rounds: but for three counts, which have each their first byte, no book has that
+/// length.
 #[test]
 fn books_of_other_counts_of_rounds() {
     let mut random = Random(81);
-    let (bytes, iv, text) = (random.bytes(800_000), random.bytes(16), random.bytes(32));
+    let (given, iv, text) = (
+        books::fronts(&mut random),
+        random.bytes(16),
+        random.bytes(32),
+    );
     for kind in &KINDS {
         for count in 0..=40 {
+            let own = [24, 28, 32].iter().position(|&rounds| rounds == count);
+            let due = if own.is_some() { 0 } else { 6 };
+            let bytes = &given[own.unwrap_or(0)];
             let n = kind.beside + ROUND * count;
-            let due = if [24, 28, 32].contains(&count) { 0 } else { 6 };
             let number = (kind.run)(&bytes[..n], &iv, &text, 32).0;
             assert_eq!(number, due, "{}, {count} rounds", kind.name);
         }

@@ -4,7 +4,8 @@
 use reference::chain::{SET, WORD};
 use reference::driver::{self, Session};
 use reference::ink::{self, Fields};
-use reference::{book, lea, maker, Size};
+use reference::{lea, maker, Size};
+use shared::books;
 use shared::maker::enough;
 use std::path::Path;
 use std::process::Command;
@@ -91,7 +92,8 @@ fn two_blocks() -> Vec<u8> {
 /// Those of the driver.
 fn due_driver() -> Vec<String> {
     let size = Size::Lea192;
-    let book = noise(size.book_bytes());
+    let mut book = noise(size.book_bytes());
+    book[0] = 24;
     let coded = two_blocks();
     let (first, last) = coded.split_at(16);
     let mut sealed = [0; 32];
@@ -99,12 +101,13 @@ fn due_driver() -> Vec<String> {
     let mut session = Session::begin(&book).unwrap();
     session.block_call(&book, first).unwrap();
     vec![
-        line(driver::run_round(&book[..book::ROUND], first)),
+        line(driver::run_round(books::round(&book, 0), first)),
         line(driver::run_rounds(&book, size.rounds(), first)),
         line(written.map(|_| sealed[16..].try_into().unwrap())),
         "1".into(),
         "1 1".into(),
         line(session.last_call(&book, last, 1)),
+        "1 1".into(),
     ]
 }
 

@@ -1,35 +1,38 @@
 //! The tag session on both versions: after each call the answer and the three things that make a
 //! session; each refusal in each state; whole tags.
 
+use reference::book::FRONT;
 use reference::chain;
 use reference::Size;
 use shared::cmac::cmac;
 use shared::pad::{code, Use};
 use shared::session::{tag, Both, Call};
-use shared::{books, Random};
+use shared::{books, first, Random};
 
-/// Lists of calls from a fresh session on one book, now and then with a book of a wrong length.
+/// Lists of calls from a fresh session on one book, now and then with a wrong length or first byte of it.
 #[test]
 fn lists_of_calls() {
     let mut random = Random(80);
-    let mut seen = [0u32; 23];
+    let mut seen = [0u32; 34];
     for (_, book) in books::any(&mut random) {
-        let before = book.clone();
+        let (before, other) = (book.clone(), books::other_front(&book, &mut random));
         for _ in 0..60 {
             let mut session = Both::begun(&book);
             for _ in 0..50 {
                 let call = Call::any(&mut random);
-                let bytes = match random.below(15) {
-                    0 => random.one_of(&[0, 16, book.len() - 1]),
-                    _ => book.len(),
+                let given = match random.below(15) {
+                    0 => &book[..random.one_of(&[0, 16, book.len() - 1])],
+                    1 => &other,
+                    _ => &book,
                 };
-                let told = session.call(&book[..bytes], &call);
+                let told = session.call(given, &call);
                 seen[told.err().unwrap_or(0) as usize] += 1;
             }
         }
         assert!(book == before, "the book");
     }
-    assert!([0, 6, 7, 10, 21].iter().all(|&n| seen[n] > 100), "{seen:?}");
+    let often = |n: &usize| seen[*n] > 100;
+    assert!([0, 6, 33, 7, 10, 21].iter().all(often), "{seen:?}");
 }
 
 /// Calls that change from book to book, in sessions in any state.
@@ -46,18 +49,17 @@ fn sessions_in_any_state() {
     }
 }
 
-/// The number due, from the reasons of 01 in their order.
-fn due(book: usize, call: &Call, taken: u16, finished: bool) -> u32 {
+/// The number due, from the reasons of 01 and of request 2026-05 in their order.
+fn due(book: &[u8], call: &Call, taken: u16, finished: bool) -> u32 {
     let length = |coded: &Vec<u8>| coded.len() != 16;
     let (block, kind, over, full) = match call {
         Call::Begin => (false, false, false, false),
         Call::Block(coded) => (length(coded), false, finished, taken == 65_535),
         Call::Last(coded, kind) => (length(coded), *kind > 1, finished, false),
     };
-    let wrong = book != 466_960 && book != 540_688 && book != 614_416;
-    let reasons = [(6, wrong), (7, block), (10, kind), (21, over), (22, full)];
-    let fits = reasons.iter().find(|(_, holds)| *holds);
-    fits.map_or(0, |&(number, _)| number)
+    let mut reasons = books::reasons(book).to_vec();
+    reasons.extend([(7, block), (10, kind), (21, over), (22, full)]);
+    first(&reasons)
 }
 
 /// Every call with blocks of right and wrong lengths and kinds right and wrong.
@@ -72,32 +74,36 @@ fn every_call(random: &mut Random) -> Vec<Call> {
     calls
 }
 
-/// Each call in each state with books of right and wrong lengths: one reason, or several at once, or
-/// none.
-#[test]
-fn refusals_in_every_state() {
-    let mut random = Random(82);
-    let bytes = random.bytes(700_000);
-    let right = Size::ALL.map(Size::book_bytes);
-    let near = right
-        .into_iter()
-        .flat_map(|n| [n - 1, n, n + 1, n - 18_432, n + 18_432]);
-    let calls = every_call(&mut random);
-    let before = (bytes.clone(), calls.clone());
-    for n in near.chain([0, 1, 16, 18_432]) {
-        for taken in [0, 1, 255, 256, 32_768, 65_534, 65_535] {
-            for flag in [0, 1, 2, 255] {
-                let state = Both::new(random.bytes(16).try_into().unwrap(), taken, flag);
-                for call in &calls {
-                    let mut session = state;
-                    let told = session.call(&bytes[..n], call);
-                    let number = due(n, call, taken, flag != 0);
-                    assert_eq!(told.err().unwrap_or(0), number, "{n}, {taken}, {flag}");
-                }
+/// Each call in each state with a book.
+fn calls_refused(book: &[u8], calls: &[Call], random: &mut Random) {
+    for taken in [0, 1, 255, 256, 32_768, 65_534, 65_535] {
+        for flag in [0, 1, 2, 255] {
+            let state = Both::new(random.block(), taken, flag);
+            for call in calls {
+                let mut session = state;
+                let told = session.call(book, call);
+                let number = due(book, call, taken, flag != 0);
+                let given = (book.len(), book.first(), taken, flag);
+                assert_eq!(told.err().unwrap_or(0), number, "{given:?}");
             }
         }
     }
-    assert!((bytes, calls) == before, "what is read");
+}
+
+/// Books of right and wrong lengths and first bytes: one reason, or several at once, or none.
+#[test]
+fn refusals_in_every_state() {
+    let mut random = Random(82);
+    let given = books::fronts(&mut random);
+    let calls = every_call(&mut random);
+    let before = (given.clone(), calls.clone());
+    let near = books::LENGTHS.map(|n| [n - 1, n, n + 1, n - 18_432, n + 18_432]);
+    for n in near.into_iter().flatten().chain([0, 1, 16, 18_432]) {
+        for bytes in &given {
+            calls_refused(&bytes[..n], &calls, &mut random);
+        }
+    }
+    assert!((given, calls) == before, "what is read");
 }
 
 /// Beginning again, at any time, gives the same fresh session.
@@ -106,7 +112,7 @@ fn beginning_again() {
     let mut random = Random(83);
     for (size, book) in books::any(&mut random) {
         let fresh = Both::begun(&book).proved;
-        let start = book[..16].try_into().unwrap();
+        let start = book[FRONT..][..16].try_into().unwrap();
         assert_eq!(fresh, Both::new(start, 0, 0).proved, "{size:?}");
         for taken in [0, 1, 65_534, 65_535] {
             for flag in [0, 1, 2, 255] {

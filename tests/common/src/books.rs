@@ -1,9 +1,10 @@
-//! Random books.
+//! Random books, and what is refused of a book.
 
 use crate::chains;
 use crate::Random;
+use reference::book::{self, FRONT, GROUP, ROUND, START};
 use reference::chain::SET;
-use reference::{book, reading, Size};
+use reference::{reading, Size};
 
 /// A key, a chain and their book; or a key, a reading chain and their reading book.
 pub struct Built {
@@ -45,6 +46,52 @@ impl Built {
     }
 }
 
+/// The lengths of books.
+pub const LENGTHS: [usize; 3] = [466_961, 540_689, 614_417];
+
+/// First bytes of books: those that belong to the three lengths, in their order, and some that belong to none.
+pub const FRONTS: [u8; 6] = [16, 24, 32, 0, 48, 255];
+
+/// Where the rounds of a book begin.
+pub const ROUNDS: usize = FRONT + START + 3 * GROUP;
+
+/// The tables of round l of a book.
+pub fn round(book: &[u8], l: usize) -> &[u8] {
+    &book[ROUNDS + ROUND * l..][..ROUND]
+}
+
+/// The reasons for which bytes are refused as a book, in their order, and whether each holds.
+pub fn reasons(book: &[u8]) -> [(u32, bool); 2] {
+    let found = LENGTHS.iter().position(|&n| n == book.len());
+    let other = found.map_or(false, |k| book[0] != FRONTS[k]);
+    [(6, found.is_none()), (33, other)]
+}
+
+/// Random bytes of a book's length but for the first, which belongs to the length.
+pub fn bytes(size: Size, random: &mut Random) -> Vec<u8> {
+    let mut book = random.bytes(size.book_bytes());
+    book[0] = size.key_bytes() as u8;
+    book
+}
+
+/// A book with another first byte: any, or one that belongs to another length.
+pub fn other_front(book: &[u8], random: &mut Random) -> Vec<u8> {
+    let mut other = book.to_vec();
+    while other[0] == book[0] {
+        other[0] = match random.below(2) {
+            0 => random.one_of(&FRONTS),
+            _ => random.number() as u8,
+        };
+    }
+    other
+}
+
+/// Random bytes, more than any book has, with each of the first bytes.
+pub fn fronts(random: &mut Random) -> [Vec<u8>; 6] {
+    let rest = random.bytes(800_000);
+    FRONTS.map(|front| [&[front], &rest[..]].concat())
+}
+
 /// Books, each with its size.
 pub type Books = Vec<(Size, Vec<u8>)>;
 
@@ -54,10 +101,10 @@ fn two_each(random: &mut Random, two: impl Fn(Size, &mut Random) -> [Vec<u8>; 2]
     Size::ALL.into_iter().flat_map(each).collect()
 }
 
-/// A book, and bytes of a book's length, of each size.
+/// A book, and random bytes that are taken as one, of each size.
 pub fn any(random: &mut Random) -> Books {
     two_each(random, |size, random| {
-        [built(size, random).book, random.bytes(size.book_bytes())]
+        [built(size, random).book, bytes(size, random)]
     })
 }
 

@@ -8,7 +8,8 @@ use reference::{driver, reading};
 pub fn rounds(book: &[u8], count: usize, block: &[u8]) -> Result<Block, u32> {
     let told = written(FILL, |out| bowlinette::run_rounds(book, count, block, out));
     let want = driver::run_rounds(book, count, block);
-    assert_eq!(told, want, "{count} rounds, {} bytes", book.len());
+    let given = (book.len(), book.first(), block.len());
+    assert_eq!(told, want, "{count} rounds, {given:?}");
     told
 }
 
@@ -32,7 +33,7 @@ fn passed(
     reference: driver::Pass,
 ) -> (u32, Vec<u8>) {
     let (told, left) = both(
-        (name, book.len(), iv.len(), text.len(), room),
+        (name, book.len(), book.first(), iv.len(), text.len(), room),
         room,
         |out| told(LENGTH, |length| proved(book, iv, text, out, length)),
         |out| reference(book, iv, text, out).map(|n| n as u64),

@@ -2,8 +2,8 @@
 
 use std::fmt::Debug;
 
-/// What bytes and lengths hold before a call. It is not the mark of a record, which would be missed if it
-/// were not written.
+/// What bytes and lengths hold before a call. It is neither the mark of a record nor the length of a key, which
+/// would be missed if they were not written.
 pub const FILL: u8 = 0x5a;
 pub const LENGTH: u64 = 0x5a5a_5a5a_5a5a_5a5a;
 

@@ -21,6 +21,12 @@ pub mod way;
 pub use lent::{FILL, LENGTH};
 pub use random::Random;
 
+/// The number due: that of the first reason that holds, or 0.
+pub fn first(reasons: &[(u32, bool)]) -> u32 {
+    let fits = reasons.iter().find(|(_, holds)| *holds);
+    fits.map_or(0, |&(number, _)| number)
+}
+
 /// The first, a middle and the last of so many.
 pub fn places(count: usize) -> [usize; 3] {
     [0, count / 2, count - 1]

@@ -90,7 +90,8 @@ impl Both {
         let flag = self.proved.finished;
         let told = proved(&mut self.proved, book, call);
         let want = reference(&mut self.reference, book, call);
-        assert_eq!(told, want, "{call:?}, book of {} bytes", book.len());
+        let given = (book.len(), book.first());
+        assert_eq!(told, want, "{call:?}, book {given:?}");
         let due = match told {
             Ok(_) => u8::from(self.reference.finished),
             Err(_) => flag,
