@@ -213,14 +213,16 @@ impl<'a> Given<'a> {
         self.other_book(self.reading.book.clone(), wrong)
     }
 
-    /// A book; or one with a bit changed, random bytes, or a wrong length, that of the other kind too.
+    /// A book; or one with a bit changed, another first byte, random bytes, or a wrong length, that of the other
+    /// kind too.
     fn other_book(&mut self, mut book: Vec<u8>, wrong: bool) -> Vec<u8> {
         if wrong {
-            match self.random.below(5) {
+            match self.random.below(6) {
                 0 => self.flip(&mut book),
-                1 => book = self.other_size(Size::book_bytes),
+                1 => book = books::bytes(self.random.one_of(&Size::ALL), &mut self.random),
                 2 => book = self.other_size(Size::reading_bytes),
                 3 => book.truncate(book.len() - ROUND),
+                4 => book = books::other_front(&book, &mut self.random),
                 _ => self.recut(&mut book),
             }
         }

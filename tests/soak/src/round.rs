@@ -9,7 +9,7 @@ use shared::archive::{check, open};
 use shared::book::{
     build, build_reading, build_round, check_chain, check_reading_chain, check_set, Build,
 };
-use shared::books::Built;
+use shared::books::{self, Built};
 use shared::chains::Kind;
 use shared::cmac::cmac;
 use shared::driver::{read, round, rounds, seal, Pass};
@@ -289,9 +289,10 @@ impl Round<'_> {
     /// soon begins again.
     fn calls(&mut self) {
         let book = match self.given.random.below(4) {
-            0 => self.given.random.bytes(self.given.size.book_bytes()),
+            0 => books::bytes(self.given.size, &mut self.given.random),
             _ => self.given.built.book.clone(),
         };
+        let other = books::other_front(&book, &mut self.given.random);
         let before = book.clone();
         let mut session = match self.given.random.below(2) {
             0 => Both::begun(&book),
@@ -302,11 +303,12 @@ impl Round<'_> {
                 true => Call::Begin,
                 false => Call::any(&mut self.given.random),
             };
-            let length = match self.given.random.below(20) {
-                0 => self.given.room(book.len(), true),
-                _ => book.len(),
+            let given = match self.given.random.below(20) {
+                0 => &book[..self.given.room(book.len(), true)],
+                1 => &other,
+                _ => &book,
             };
-            let told = session.call(&book[..length], &call);
+            let told = session.call(given, &call);
             let name = match call {
                 Call::Begin => "begin",
                 Call::Block(_) => "block_call",
