@@ -2,7 +2,7 @@
 //! are looked up at a time, the three words side by side, and each round writes into the block it is
 //! lent. As there, nothing is checked inside a round: each index is below 18,432 whatever the bytes are.
 
-use reference::book::{ADD, FOLD, GROUP, ROUND, START, TURN};
+use reference::book::{ADD, FOLD, FRONT, GROUP, ROUND, START, TURN};
 use reference::chain::MIDDLES;
 use reference::driver::{room, LIMIT};
 use reference::lea::{whole, Block};
@@ -112,16 +112,18 @@ pub fn fold(group: &[u8; GROUP], x: &Block, y: &Block) -> Block {
     })
 }
 
-/// A book of one of the three lengths.
+/// A book of one of the three lengths, behind its first byte, which belongs to the length.
 #[derive(Clone, Copy)]
 struct Book<'a>(&'a [u8]);
 
 impl<'a> Book<'a> {
     #[inline]
     fn new(bytes: &'a [u8]) -> Result<Book<'a>, u32> {
-        match Size::ALL.iter().any(|s| s.book_bytes() == bytes.len()) {
-            true => Ok(Book(bytes)),
-            false => Err(refusal::BOOK_LENGTH),
+        let found = Size::ALL.iter().find(|s| s.book_bytes() == bytes.len());
+        let size = found.ok_or(refusal::BOOK_LENGTH)?;
+        match usize::from(bytes[0]) == size.key_bytes() {
+            true => Ok(Book(&bytes[FRONT..])),
+            false => Err(refusal::SIZE_BYTE),
         }
     }
 
