@@ -4,7 +4,7 @@
 mod given;
 
 use given::{built, numbers, opened, xor};
-use reference::book::{self, GROUP, ROUND, START};
+use reference::book::{self, FRONT, GROUP, ROUND, START};
 use reference::chain::{self, decode, Chain, CODING};
 use reference::driver::{block, fold, halves, round, run_round, run_rounds, seal, Session};
 use reference::lea::{self, Block};
@@ -30,7 +30,7 @@ fn rounds_of_tables_are_rounds_of_the_cipher() {
             let coded = given::block(&mut below);
             let (plain, mut x) = (decode(chain.set(0), &coded), halves(&coded));
             for l in 0..size.rounds() {
-                x = round(&book[1 + START + 3 * GROUP + ROUND * l..][..ROUND], &x);
+                x = round(&book[FRONT + START + 3 * GROUP + ROUND * l..][..ROUND], &x);
                 let want = lea::first_rounds(&key, l + 1, &plain).unwrap();
                 assert_eq!(decode(chain.set(l + 1), &block(&x)), want, "{size:?}, {l}");
             }
@@ -45,9 +45,9 @@ fn folds_are_xors() {
         let (key, bytes, book) = built(size, &mut below);
         let chain = chain::check(key.len(), &bytes).ok().unwrap();
         let last = chain.set(size.rounds());
-        let zero: Block = book[1..][..START].try_into().unwrap();
+        let zero: Block = book[FRONT..][..START].try_into().unwrap();
         assert_eq!(decode(last, &zero), [0; 16], "{size:?}, the start");
-        let groups = book[1 + START..][..3 * GROUP].chunks_exact(GROUP);
+        let groups = book[FRONT + START..][..3 * GROUP].chunks_exact(GROUP);
         for (group, subkey) in groups.zip(subkeys(&key)) {
             let (text, message) = (given::block(&mut below), given::block(&mut below));
             let folded = block(&fold(group, &halves(&text), &halves(&message)));
