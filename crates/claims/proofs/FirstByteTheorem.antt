@@ -12,7 +12,7 @@ use Rattle.cipher.specs.declared.size.KeySize.{KeySize}
 use Rattle.cipher.specs.declared.size.SizeFound.the-variants.{Found}
 use Rattle.cipher.proofs.KeySizeLaws.{found-length, one-of}
 use Rattle.cipher.proofs.CheckLaws.{clear-taken}
-use Rattle.driver.specs.Driver.{admitAnswer, bodyLength, runRoundsAnswer, sealAnswer, spent, begunOver, beginAnswer, kindTests, finishedTests, fullTests, blockAnswer, lastAnswer}
+use Rattle.driver.specs.Driver.{bookTests, admitAnswer, bodyLength, runRoundsAnswer, sealAnswer, spent, begunOver, beginAnswer, kindTests, finishedTests, fullTests, blockAnswer, lastAnswer}
 use Rattle.driver.specs.declared.session.Session.{Session}
 use Rattle.driver.proofs.AdmitLaws.{admitted-length, book-taken}
 use Rattle.claims.specs.Model.{Call, blockCall, lastCall, Answer}
@@ -23,35 +23,31 @@ use Rattle.claims.proofs.BuiltLaws.{built-size, built-is, built-body, b
 
 -- a book of size z that is not refused
 module _ (bk : List ℕ) (z : KeySize) (found : admitAnswer bk ≡ (0, Found z)) where
-  -- without its first byte it was not refused either, so both ways the tests `ts` decide
-  alike : {A : Type 0} (ts : List (Bool × ℕ)) (refuse : ℕ → A) (go : A) (today : A) → today ≡ first ts refuse go → today ≡ first (bareTests (drop 1 bk) ++ ts) refuse go
-  alike ts refuse go today e = e ∙ sym (clear-taken ts refuse go (bareTests (drop 1 bk)) (one-of bodyLength (length (drop 1 bk)) z (admitted-length bk z found), tt))
+  -- without its first byte it is not refused either, so both ways the tests `ts` decide
+  alike : {A : Type 0} (ts : List (Bool × ℕ)) (refuse : ℕ → A) (go : A) → first (bookTests bk ++ ts) refuse go ≡ first (bareTests (drop 1 bk) ++ ts) refuse go
+  alike ts refuse go =
+      book-taken bk ts refuse go z found
+      ∙ sym (clear-taken ts refuse go (bareTests (drop 1 bk)) (one-of bodyLength (length (drop 1 bk)) z (admitted-length bk z found), tt))
 
   rounds-alike : (n : ℕ) (b : List ℕ) → runRoundsAnswer bk n b ≡ bareRounds (drop 1 bk) n b
   unfolding runRoundsAnswer bareRounds
-  rounds-alike n b = alike (blockTests b) _ _ _ (book-taken bk (blockTests b) _ _ z found)
+  rounds-alike n b = alike (blockTests b) _ _
 
   seal-alike : (iv coded out : List ℕ) → sealAnswer bk iv coded out ≡ bareSeal (drop 1 bk) iv coded out
   unfolding sealAnswer bareSeal
-  seal-alike iv coded out =
-      let ts = blockTests iv ++ (textTests coded ++ roomTests (length coded) out) in
-      alike ts _ _ _ (book-taken bk ts _ _ z found)
+  seal-alike iv coded out = alike (blockTests iv ++ (textTests coded ++ roomTests (length coded) out)) _ _
 
   begun-alike : (s : Session) → begunOver bk s ≡ bareBegun (drop 1 bk) s
   unfolding begunOver bareBegun
-  begun-alike s = alike [] _ _ _ (book-taken bk [] _ _ z found)
+  begun-alike s = alike [] _ _
 
   block-alike : (m : List ℕ) (s : Session) → blockAnswer bk m s ≡ bareBlock (drop 1 bk) m s
   unfolding blockAnswer bareBlock
-  block-alike m s =
-      let ts = blockTests m ++ (finishedTests s ++ fullTests s) in
-      alike ts _ _ _ (book-taken bk ts _ _ z found)
+  block-alike m s = alike (blockTests m ++ (finishedTests s ++ fullTests s)) _ _
 
   last-alike : (m : List ℕ) (k : ℕ) (s : Session) → lastAnswer bk m k s ≡ bareLast (drop 1 bk) m k s
   unfolding lastAnswer bareLast
-  last-alike m k s =
-      let ts = blockTests m ++ (kindTests k ++ finishedTests s) in
-      alike ts _ _ _ (book-taken bk ts _ _ z found)
+  last-alike m k s = alike (blockTests m ++ (kindTests k ++ finishedTests s)) _ _
 
   call-alike : (c : Call) (s : Session) → driverCall bk c s ≡ bareCall (drop 1 bk) c s
   unfolding driverCall bareCall

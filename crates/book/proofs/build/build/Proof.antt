@@ -100,8 +100,8 @@ returns-4 c =
     let e = at-of-key-len .before .before .before .before in
     let z = at-size .size .given .0 .0 in
     let b = at-book-len .book-len .ensures in
-    let whole = at-fill .fill .last .1 .1 .1 .0 in
-    ap (λ (l : List ℕ). (0, l)) (byte-joined (at-key-len .key-len .result) whole (e .args .out .now) (at-book-len .book-len .result) (bookLength z) b (omega arith) (omega arith))
+    let body = at-fill .fill .last .1 .1 .1 .0 in
+    ap (λ (l : List ℕ). (0, l)) (byte-joined (at-key-len .key-len .result) body (e .args .out .now) (at-book-len .book-len .result) (bookLength z) b (omega arith) (omega arith))
     ∙ built-done _ _ _ _ _ _ _ z (sym (at-of-key-len .of-key-len .ensures) ∙ at-size .size .given .1)
     (chain-checked z _ (sym (at-check-sized .check-sized .ensures) ∙ sym (at-number .number .ensures) ∙ at-if1 .if1 .left))
     (omega arith) _
