@@ -24,10 +24,9 @@ pub fn set(random: &mut Random) -> Vec<u8> {
 /// The coding that changes nothing.
 pub const IDENTITY: [u8; CODING] = [0, 1, 2, 3, 4, 5, 6, 7, 8, 9, 10, 11, 12, 13, 14, 15];
 
-/// The chain with one coding everywhere, and one mask wherever it need not be 0: valid of both kinds.
+/// The chain with one coding and one mask everywhere: valid of both kinds.
 pub fn uniform(size: Size, coding: [u8; CODING], mask: u8) -> Vec<u8> {
-    let masks = [0, mask, mask, mask, mask, mask, mask, mask].repeat(3);
-    let round = [coding.repeat(MIDDLES), masks].concat();
+    let round = [coding.repeat(MIDDLES), vec![mask; MIDDLES]].concat();
     let sets = coding.repeat(32 * (size.rounds() + 2));
     [sets, round.repeat(size.rounds())].concat()
 }

@@ -65,9 +65,9 @@ impl Kind {
     /// How many bytes are drawn if none is skipped.
     pub fn fewest(self, size: Size) -> usize {
         let (chain, reading) = match size {
-            Size::Lea128 => (18_744, 18_264),
-            Size::Lea192 => (21_708, 21_228),
-            Size::Lea256 => (24_672, 24_192),
+            Size::Lea128 => (18_816, 18_336),
+            Size::Lea192 => (21_792, 21_312),
+            Size::Lea256 => (24_768, 24_288),
         };
         match self {
             Kind::Sealing => chain,
@@ -99,8 +99,7 @@ impl Kind {
             let round = SET * (size.rounds() + 2) + ROUND * l;
             let masks = round + CODING * MIDDLES;
             parts.extend(codings(round, CODING * MIDDLES));
-            let drawn = (0..MIDDLES).filter(|k| k % 8 != 0);
-            parts.extend(drawn.map(|k| Part::Mask(masks + k)));
+            parts.extend((masks..masks + MIDDLES).map(Part::Mask));
         }
         parts
     }

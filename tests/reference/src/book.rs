@@ -1,4 +1,5 @@
-//! Books (01, "Book"; request 2026-05): the key length, and every table, from codings inverted beforehand.
+//! Books (01, "Book"; requests 2026-05 and 2026-06): the key length, and every table, from codings inverted
+//! beforehand.
 
 use crate::chain::{self, Chain, CODING, MIDDLES, SET};
 use crate::lea::{self, Block, Row};
@@ -122,22 +123,33 @@ impl<'a> Round<'a> {
         (half(self.row[2 * i], j), half(self.row[2 * i + 1], j))
     }
 
+    /// The mask on the carry into a place; no carry is hidden on its way into half byte 0.
+    #[inline]
+    fn mask_in(&self, place: usize) -> u8 {
+        match place % 8 {
+            0 => 0,
+            _ => self.masks[place],
+        }
+    }
+
+    /// The mask on the carry out of a place: that of the next half byte, and after the top one that of half
+    /// byte 0 of the same word.
+    #[inline]
+    fn mask_out(&self, place: usize) -> u8 {
+        self.masks[place / 8 * 8 + (place + 1) % 8]
+    }
+
     /// The entries of each sum mod 32 at a place: what its half byte is coded as, and the masked carry.
     #[inline]
     pub(crate) fn coded(&self, place: usize, image: &[u8; CODING]) -> [u8; 32] {
-        std::array::from_fn(|s| {
-            let carry = match place % 8 {
-                7 => 0,
-                _ => (s / 16) as u8 ^ self.masks[place + 1],
-            };
-            16 * carry + image[s % 16]
-        })
+        let mask = self.mask_out(place);
+        std::array::from_fn(|s| 16 * ((s / 16) as u8 ^ mask) + image[s % 16])
     }
 
     /// The carries that the two carry bits stand for at a place.
     #[inline]
     pub(crate) fn carries(&self, place: usize) -> [u8; 2] {
-        [0, 1].map(|c| c ^ self.masks[place])
+        [0, 1].map(|c| c ^ self.mask_in(place))
     }
 
     /// Add table (i, j).

@@ -1,5 +1,5 @@
-//! Codings, sets and chains (01, "Chain of codings"): where everything stands, what is refused, how a
-//! block is coded, and how a chain is drawn.
+//! Codings, sets and chains (01, "Chain of codings"; request 2026-06): where everything stands, what is
+//! refused, how a block is coded, and how a chain is drawn.
 
 use crate::lea::Block;
 use crate::refusal;
@@ -84,11 +84,8 @@ impl<'a> Chain<'a> {
         if !rounds.clone().all(kept) {
             return Err(refusal::WORD_RULE);
         }
-        let good = |(k, &mask): (usize, &u8)| mask <= u8::from(k % 8 != 0);
-        if !rounds
-            .clone()
-            .all(|l| self.masks(l).iter().enumerate().all(good))
-        {
+        let good = |l| self.masks(l).iter().all(|&mask| mask <= 1);
+        if !rounds.clone().all(good) {
             return Err(refusal::MASK);
         }
         Ok(self)
@@ -216,8 +213,7 @@ fn random_by(
 }
 
 /// A valid chain of drawn codings and masks, its set 0 the one given, if one is: `below` gives a number
-/// below its argument, or ends the drawing. A set that is given, what the rule fixes and the masks at
-/// half byte 0 draw nothing.
+/// below its argument, or ends the drawing. A set that is given and what the rule fixes draw nothing.
 pub(crate) fn drawn<E>(
     rule: Rule,
     size: Size,
@@ -242,8 +238,8 @@ pub(crate) fn drawn<E>(
     }
     for _ in 0..size.rounds() {
         codings(MIDDLES * CODING, &mut chain, &mut below)?;
-        for place in 0..MIDDLES {
-            chain.push(if place % 8 == 0 { 0 } else { below(2)? as u8 });
+        for _ in 0..MIDDLES {
+            chain.push(below(2)? as u8);
         }
     }
     Ok(chain)

@@ -1,4 +1,4 @@
-//! Document 01 and requests 2026-01 to 2026-05 in Rust, written from their words alone: what the proved
+//! Document 01 and requests 2026-01 to 2026-06 in Rust, written from their words alone: what the proved
 //! library is compared with, and the yardstick of the benchmarks.
 
 pub mod archive;

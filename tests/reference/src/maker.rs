@@ -1,4 +1,4 @@
-//! The chain maker (request 2026-03): chains and reading chains drawn from random bytes.
+//! The chain maker (requests 2026-03 and 2026-06): chains and reading chains drawn from random bytes.
 
 use crate::book::room;
 use crate::chain::{self, Rule, CODING, READING, SEALING};

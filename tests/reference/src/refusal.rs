@@ -1,5 +1,5 @@
 //! The numbers of the refusals (01, "Refusals from the input" and "Refusals from the state"; 02, requests
-//! 2026-02, 2026-03 and 2026-05).
+//! 2026-02, 2026-03, 2026-05 and 2026-06).
 
 /// The key has none of the three sizes.
 pub const KEY_LENGTH: u32 = 1;
@@ -9,7 +9,7 @@ pub const CHAIN_LENGTH: u32 = 2;
 pub const NO_PERMUTATION: u32 = 3;
 /// Word 3 of a set is not coded as word 0 of the set before; in a reading chain, word 0 not as word 3.
 pub const WORD_RULE: u32 = 4;
-/// A mask is over 1, or not 0 at half byte 0.
+/// A mask is over 1.
 pub const MASK: u32 = 5;
 /// A book or reading book has none of its three lengths, or the tables of a round not 18,432 bytes.
 pub const BOOK_LENGTH: u32 = 6;

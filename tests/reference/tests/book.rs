@@ -1,14 +1,16 @@
 //! Books of the reference by what they are for: their tables, run on coded blocks and decoded, do
-//! what LEA does. And by their layout: the key length in front, then every byte, and what is refused of them.
+//! what LEA does, and hold each entry that is due. And by their layout: the key length in front, then every
+//! byte, and what is refused of them.
 
 mod given;
 
-use given::{built, numbers, opened, xor};
+use given::{built, hidden, numbers, opened, xor};
 use reference::book::{self, FRONT, GROUP, ROUND, START};
-use reference::chain::{self, decode, Chain, CODING};
+use reference::chain::{self, decode, Chain, CODING, MIDDLES, SET};
 use reference::driver::{block, fold, halves, round, run_round, run_rounds, seal, Session};
 use reference::lea::{self, Block};
 use reference::Size;
+use shared::chains::{uniform, IDENTITY};
 
 /// The key lengths, and the lengths of their books (request 2026-05).
 const LENGTHS: [(usize, usize); 3] = [(16, 466_961), (24, 540_689), (32, 614_417)];
@@ -34,6 +36,61 @@ fn rounds_of_tables_are_rounds_of_the_cipher() {
                 let want = lea::first_rounds(&key, l + 1, &plain).unwrap();
                 assert_eq!(decode(chain.set(l + 1), &block(&x)), want, "{size:?}, {l}");
             }
+        }
+    }
+}
+
+/// Entry 256c + 16p + q of add table (i, j) of round l, word for word.
+fn add_entry(
+    chain: Chain,
+    row: &lea::Row,
+    l: usize,
+    (i, j): (usize, usize),
+    (c, p, q): (u8, usize, usize),
+) -> u8 {
+    let place = 8 * i + j;
+    let key = |k: usize| (row[k] >> (4 * j)) as usize & 15;
+    let [mask_in, mask_out] = hidden(&chain.masks(l)[8 * i..], j);
+    let a = opened(chain.set(l), place, p) ^ key(2 * i);
+    let b = opened(chain.set(l), place + 8, q) ^ key(2 * i + 1);
+    let s = a + b + usize::from(c ^ mask_in);
+    let carry = u8::from(s > 15) ^ mask_out;
+    16 * carry + chain.middles(l)[CODING * place + s % 16]
+}
+
+#[test]
+fn every_entry_of_the_adds() {
+    let mut below = numbers(17);
+    for size in Size::ALL {
+        let (key, bytes, book) = built(size, &mut below);
+        let chain = chain::check(key.len(), &bytes).ok().unwrap();
+        let rounds = book[FRONT + START + 3 * GROUP..].chunks_exact(ROUND);
+        for (l, tables) in rounds.enumerate() {
+            let row = lea::round_keys(&key, l).unwrap();
+            for (k, &entry) in tables[..24 * 512].iter().enumerate() {
+                let (place, c) = ((k / 4096, k / 512 % 8), (k / 256 % 2) as u8);
+                let due = add_entry(chain, &row, l, place, (c, k / 16 % 16, k % 16));
+                assert_eq!(entry, due, "{size:?}, {l}, {k}");
+            }
+        }
+    }
+}
+
+/// 9 and 8 added in half byte 7, all codings identities and the half bytes of the key taken off beforehand: the
+/// carry is seen where the mask at half byte 0 is 0, and not where that is 1 (request 2026-06).
+#[test]
+fn the_top_of_a_sum() {
+    for size in Size::ALL {
+        let (key, mut tables) = (vec![0x5c; size.key_bytes()], [0; ROUND]);
+        let row = lea::round_keys(&key, 0).unwrap();
+        let mut chain = uniform(size, IDENTITY, 0);
+        let masks = SET * (size.rounds() + 2) + MIDDLES * CODING;
+        for (i, (mask, due)) in (0..3).flat_map(|i| [(0, 17), (1, 1)].map(|due| (i, due))) {
+            chain[masks + 8 * i] = mask;
+            assert_eq!(book::build_round(&key, &chain, 0, &mut tables), Ok(()));
+            let [p, q] = [(9, 2 * i), (8, 2 * i + 1)].map(|(x, k)| x ^ (row[k] >> 28) as usize);
+            let entry = tables[512 * (8 * i + 7) + 16 * p + q];
+            assert_eq!(entry, due, "{size:?}, sum {i}, mask {mask}");
         }
     }
 }

@@ -1,5 +1,5 @@
 //! The chain maker of the reference: chains worked out by hand, the bytes that are skipped, how many are
-//! drawn, random chains from the bytes that make them, and what is refused.
+//! drawn, random chains from the bytes that make them, which masks are valid, and what is refused.
 
 use reference::chain::{check, check_reading, SET, WORD};
 use reference::Size;
@@ -92,7 +92,7 @@ fn the_given_set() {
 fn low_and_high_bytes_at_every_place() {
     let (kind, size, set) = (Kind::Sealing, Size::Lea128, IDENTITY.repeat(32));
     let (random, same) = (kind.stay(size), uniform(size, IDENTITY, 0));
-    let ends = [(0, 0), (random.len() - 36, same.len() - 40)];
+    let ends = [(0, 0), (random.len() - 39, same.len() - 40)];
     for (k, first) in (1..16).rev().zip(SKIPPED) {
         for byte in (0..32).chain(224..256) {
             for (draw, coding) in ends {
@@ -127,17 +127,37 @@ fn skipped_again_and_again() {
     }
 }
 
-/// A mask is the lowest bit of any byte, none of which is skipped.
+/// Each of the 24 masks of a round is the lowest bit of its own byte, none of which is skipped.
 #[test]
-fn every_byte_as_a_mask() {
+fn every_byte_as_every_mask() {
     let (kind, size, set) = (Kind::Sealing, Size::Lea256, IDENTITY.repeat(32));
     let (mut random, mut due) = (kind.stay(size), uniform(size, IDENTITY, 0));
-    let (n, last) = (random.len() - 1, due.len() - 1);
-    for byte in 0..=255 {
-        (random[n], due[last]) = (byte, byte % 2);
-        let told = made(kind, size, &set, &random);
-        assert!(told == Ok((n + 1, due.clone())), "{byte}");
+    for place in 1..=24 {
+        let (n, last) = (random.len() - place, due.len() - place);
+        for byte in 0..=255 {
+            (random[n], due[last]) = (byte, byte % 2);
+            let told = made(kind, size, &set, &random);
+            assert!(told == Ok((random.len(), due.clone())), "{place}, {byte}");
+        }
+        (random[n], due[last]) = (0, 0);
     }
+}
+
+/// A chain with any byte for one of the 24 masks of its last round is valid if that is 0 or 1.
+#[test]
+fn masks_of_valid_chains() {
+    on_each(|kind, size| {
+        let mut chain = uniform(size, IDENTITY, 0);
+        for at in chain.len() - 24..chain.len() {
+            for byte in 0..=255 {
+                chain[at] = byte;
+                let due = if byte > 1 { Some(5) } else { None };
+                let told = checked(kind, size.key_bytes(), &chain);
+                assert_eq!(told, due, "{kind:?}, {size:?}, {at}, {byte}");
+            }
+            chain[at] = 1;
+        }
+    });
 }
 
 #[test]
@@ -178,7 +198,7 @@ fn bytes_run_out() {
     on_each(|kind, size| {
         let (_, set, bytes) = drawn(kind, size, &mut random);
         let n = bytes.len();
-        for count in [0, 1, 14, 15, n / 3, n / 2, n - 22, n - 21, n - 1] {
+        for count in [0, 1, 14, 15, n / 3, n / 2, n - 25, n - 24, n - 1] {
             let told = made(kind, size, &set, &bytes[..count]);
             assert_eq!(told, Err(32), "{kind:?}, {size:?}, {count}");
         }

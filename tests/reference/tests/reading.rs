@@ -3,7 +3,7 @@
 
 mod given;
 
-use given::{block, built, numbers, opened, xor};
+use given::{block, built, hidden, numbers, opened, xor};
 use reference::chain::{self, check_reading, decode, decode_all, Chain, CODING, SET, WORD};
 use reference::driver::{self, halves};
 use reference::lea::{self, Block};
@@ -96,16 +96,13 @@ fn subtract_entry(
 ) -> u8 {
     let place = 8 * i + j;
     let key = |k: usize| (row[k] >> (4 * j)) as i32 & 15;
-    let mask = |place: usize| i32::from(chain.masks(l)[place]);
     let t = opened(chain.middles(l), place, p) as i32;
     let x = opened(chain.set(l + 1), place, q) as i32;
-    let d = t - (x ^ key(2 * i)) - (c as i32 ^ mask(place));
-    let borrow = match j {
-        7 => 0,
-        _ => i32::from(d < 0) ^ mask(place + 1),
-    };
+    let [mask_in, mask_out] = hidden(&chain.masks(l)[8 * i..], j);
+    let d = t - (x ^ key(2 * i)) - i32::from(c as u8 ^ mask_in);
+    let borrow = u8::from(d < 0) ^ mask_out;
     let half = (d.rem_euclid(16) ^ key(2 * i + 1)) as usize;
-    16 * borrow as u8 + chain.set(l + 1)[CODING * (place + 8) + half]
+    16 * borrow + chain.set(l + 1)[CODING * (place + 8) + half]
 }
 
 #[test]

@@ -28,6 +28,16 @@ pub fn opened(codings: &[u8], k: usize, half: usize) -> usize {
     coding.iter().position(|&x| usize::from(x) == half).unwrap()
 }
 
+/// The masks of the carries, or borrows, into half byte j and out of it, of the eight masks of a word: none into
+/// half byte 0, and that at half byte 0 out of half byte 7.
+pub fn hidden(masks: &[u8], j: usize) -> [u8; 2] {
+    match j {
+        0 => [0, masks[1]],
+        7 => [masks[7], masks[0]],
+        _ => [masks[j], masks[j + 1]],
+    }
+}
+
 /// A key, a chain and their book.
 pub fn built(size: Size, below: &mut impl FnMut(usize) -> usize) -> (Vec<u8>, Vec<u8>, Vec<u8>) {
     let key: Vec<u8> = (0..size.key_bytes()).map(|_| below(256) as u8).collect();
