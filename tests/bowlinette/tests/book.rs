@@ -5,7 +5,8 @@ use reference::book::{ADD, FOLD, ROUND};
 use reference::chain::{self, CODING, MIDDLES, SET, WORD};
 use reference::{lea, Size};
 use shared::book::{build, build_reading, build_round};
-use shared::{books, chains, places, Random, FILL};
+use shared::chains::{self, uniform, IDENTITY};
+use shared::{books, places, Random, FILL};
 
 /// What is built.
 #[derive(Clone, Copy, Debug, PartialEq)]
@@ -192,7 +193,7 @@ fn the_lowest_number_first() {
         |c| c.chain.push(0),
         |c| c.chain[0] = 16,
         |c| c.chain.swap(2 * SET, 2 * SET + 1),
-        |c| c.chain[SET * (c.size.rounds() + 2) + CODING * MIDDLES] = 1,
+        |c| c.chain[SET * (c.size.rounds() + 2) + CODING * MIDDLES] = 2,
     ];
     on_cases(46, 1, |_, case| {
         for choice in 0..32 {
@@ -204,17 +205,14 @@ fn the_lowest_number_first() {
     });
 }
 
-/// The examples of 01's table for add and turn tables, read off books of identity codings. The key
-/// half bytes of a round are what its row has, so the index is moved by them.
+/// The examples of 01's table for add and turn tables, those of half byte 7 as of request 2026-06, read off
+/// books of identity codings. The key half bytes of a round are what its row has, so the index is moved by
+/// them.
 #[test]
 fn table_examples() {
     for size in Size::ALL {
         let mut case = Case::new(Kind::Book, size, &mut Random(45));
-        case.chain = chain::random(size, |bound| bound - 1);
-        for l in 0..size.rounds() {
-            let masks = SET * (size.rounds() + 2) + chain::ROUND * l + CODING * MIDDLES;
-            case.chain[masks..][..MIDDLES].fill(0);
-        }
+        case.chain = uniform(size, IDENTITY, 0);
         let (_, plain) = case.round(0, ROUND);
         let row = lea::round_keys(&case.key, 0).unwrap();
         let add = |tables: &[u8], j: usize, c: usize, p: usize, q: usize| {
@@ -222,13 +220,17 @@ fn table_examples() {
             tables[ADD * j + 256 * c + 16 * (p ^ half(row[0])) + (q ^ half(row[1]))]
         };
         assert_eq!(add(&plain, 0, 0, 9, 8), 17);
-        assert_eq!(add(&plain, 7, 0, 9, 8), 1);
+        assert_eq!(add(&plain, 7, 0, 9, 8), 17);
         assert_eq!(add(&plain, 1, 1, 15, 15), 31);
         assert_eq!(add(&plain, 0, 0, 9 ^ 3, 8 ^ 5), 23);
         let turn = |i: usize| plain[MIDDLES * ADD + FOLD * 8 * i + 16 * 9 + 8];
         assert_eq!([turn(0), turn(1)], [3, 12]);
-        case.chain[SET * (size.rounds() + 2) + CODING * MIDDLES + 1] = 1;
-        let (_, masked) = case.round(0, ROUND);
-        assert_eq!(add(&masked, 0, 0, 9, 8), 1);
+        for (masked, j) in [(1, 0), (0, 7)] {
+            let mut other = case.clone();
+            other.chain[SET * (size.rounds() + 2) + CODING * MIDDLES + masked] = 1;
+            let (_, tables) = other.round(0, ROUND);
+            assert_eq!(add(&tables, j, 0, 9, 8), 1);
+            assert_eq!(add(&tables, 7 - j, 0, 9, 8), 17);
+        }
     }
 }

@@ -51,7 +51,7 @@ fn valid_chains() {
     }
 }
 
-/// Identity codings, the masks all 0 or, where they may be, all 1: valid of both kinds.
+/// Identity codings, the masks all 0 or all 1: valid of both kinds.
 #[test]
 fn identity_chains() {
     for size in Size::ALL {
@@ -120,21 +120,16 @@ fn the_word_rule() {
     });
 }
 
+/// Every byte as every mask of a round, those at half byte 0 too: over 1 it is refused.
 #[test]
 fn masks() {
     on_chains(34, |kind, size, chain| {
         for l in places(size.rounds()) {
-            for place in 0..MIDDLES {
-                for mask in [0, 1, 2, 16, 255] {
-                    let good = mask == 0 || mask == 1 && place % 8 != 0;
-                    let at = masks_at(size, l) + place;
-                    let number = changed(kind, size, &chain, |c| c[at] = mask);
-                    assert_eq!(
-                        number,
-                        if good { 0 } else { 5 },
-                        "mask {mask} at {l}, {place}"
-                    );
-                }
+            for (place, mask) in (0..MIDDLES).flat_map(|place| (0..=255).map(move |m| (place, m))) {
+                let at = masks_at(size, l) + place;
+                let number = changed(kind, size, &chain, |c| c[at] = mask);
+                let due = if mask > 1 { 5 } else { 0 };
+                assert_eq!(number, due, "{kind:?}, mask {mask} at {l}, {place}");
             }
         }
     });

@@ -2,13 +2,13 @@
 //! are skipped, that run out and that are behind, chains from the bytes that make them, each refusal with its
 //! neighbours, which of several comes first, and made chains on the whole way.
 
-use reference::chain::{CODING, SET, WORD};
+use reference::chain::{CODING, MIDDLES, ROUND, SET, WORD};
 use reference::Size;
 use shared::book::{build, build_reading, Build};
 use shared::books::Built;
 use shared::chains::{self, on_each, uniform, Kind, IDENTITY, KINDS};
 use shared::maker::{enough, make, skipped, Made, Part, SKIPPED, STAY};
-use shared::{way, Random};
+use shared::{places, way, Random};
 
 /// A chain made in a buffer of its length.
 fn made(kind: Kind, size: Size, set: &[u8], random: &[u8]) -> Made {
@@ -71,6 +71,42 @@ fn every_byte_as_every_mask() {
     });
 }
 
+/// How many bytes a round draws where none is skipped: those of its middle codings, and one for each mask.
+const DRAWN: usize = 15 * MIDDLES + MIDDLES;
+
+/// The masks of a round are drawn as they stand: one byte that is odd makes 1 of one mask, those at half byte 0
+/// too.
+#[test]
+fn each_mask_from_its_own_byte() {
+    on_each(|kind, size| {
+        let (stay, same) = (kind.stay(size), uniform(size, IDENTITY, 0));
+        for l in places(size.rounds()) {
+            for place in 0..MIDDLES {
+                let (mut bytes, mut due, left) = (stay.clone(), same.clone(), size.rounds() - l);
+                bytes[stay.len() - DRAWN * left + 15 * MIDDLES + place] = 1;
+                due[same.len() - ROUND * left + CODING * MIDDLES + place] = 1;
+                must_make(kind, size, &bytes, due, place);
+            }
+        }
+    });
+}
+
+/// With none skipped, all of U is drawn, all of set 0 unless it is given, and for each round three words of the
+/// set behind it and the round itself. One byte fewer is too few.
+#[test]
+fn the_fewest_bytes() {
+    on_each(|kind, size| {
+        let before = match kind {
+            Kind::Sealing => 15 * 64,
+            Kind::Reading => 15 * 32,
+        };
+        let n = before + (15 * 24 + DRAWN) * size.rounds();
+        let told = |n: usize| made(kind, size, &IDENTITY.repeat(32), &vec![0; n]);
+        assert_eq!(told(n).map(|(n, _)| n), Ok(n), "{kind:?}, {size:?}");
+        assert_eq!(told(n - 1), Err(32), "{kind:?}, {size:?}");
+    });
+}
+
 /// The bytes that make an identity, with so many that are skipped before each.
 fn with_skipped(count: usize, random: &mut Random) -> Vec<u8> {
     let places = STAY.into_iter().zip(SKIPPED);
@@ -114,7 +150,7 @@ fn very_many_at(kind: Kind, size: Size, byte: u8, (front, rest): (&[u8], &[u8]))
 fn very_many_bytes_skipped() {
     on_each(|kind, size| {
         let stay = kind.stay(size);
-        for coding in [0, 15 * 500, stay.len() - 21 - 15] {
+        for coding in [0, 15 * 500, stay.len() - MIDDLES - 15] {
             for (at, first) in (coding..).zip(SKIPPED) {
                 for byte in first..256 {
                     very_many_at(kind, size, byte as u8, stay.split_at(at));

@@ -166,7 +166,7 @@ fn chains_that_are_not_valid() {
         refused_chain(size, &good, twice(middle), 3, &mut random);
         refused_chain(size, &good, word(2 * SET + 3 * WORD), 4, &mut random);
         refused_chain(size, &good, word(rounds - CODING), 4, &mut random);
-        refused_chain(size, &good, byte(mask, 1), 5, &mut random);
+        refused_chain(size, &good, byte(mask, 2), 5, &mut random);
         refused_chain(size, &good, byte(mask + MIDDLES - 1, 2), 5, &mut random);
     }
 }
@@ -200,13 +200,27 @@ fn lowest_number() {
         let mut all = valid(size, &mut random);
         let chain = chain_at(size);
         let mask = chain + size.chain_bytes() - MIDDLES;
-        all[mask] = 1;
+        all[mask] = 2;
         refuses(&all[..all.len() - 3], 5);
         all.swap(chain + 2 * SET + 3 * WORD, chain + 2 * SET + 3 * WORD + 1);
         refuses(&all[..all.len() - 3], 4);
         all[chain + CODING] = 255;
         refuses(&all[..all.len() - 3], 3);
         refuses(&all[..mask], 2);
+    }
+}
+
+/// The masks at half byte 0 hide what no round reads: with each of them the other way round, the same is printed.
+#[test]
+fn masks_of_the_top_carries() {
+    let mut random = Random(97);
+    for size in Size::ALL {
+        let mut all = valid(size, &mut random);
+        let text = run(&all);
+        for at in chains::top_masks(size) {
+            all[chain_at(size) + at] ^= 1;
+        }
+        assert_eq!(run(&all), text, "{size:?}");
     }
 }
 

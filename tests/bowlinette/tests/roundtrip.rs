@@ -53,7 +53,7 @@ impl Wrong {
             Wrong::Word => given
                 .chain
                 .swap(2 * SET + 24 * CODING, 2 * SET + 24 * CODING + 1),
-            Wrong::Mask => given.chain[SET * (size.rounds() + 2) + MIDDLES * CODING] = 1,
+            Wrong::Mask => given.chain[SET * (size.rounds() + 2) + MIDDLES * CODING] = 2,
             Wrong::Book(by) => cut(&mut given.rooms[0], by),
             Wrong::Message => given.message = long,
             Wrong::Code(by) => cut(&mut given.rooms[1], by),

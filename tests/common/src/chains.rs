@@ -2,7 +2,7 @@
 
 use crate::book::{check_chain, check_reading_chain};
 use crate::Random;
-use reference::chain::{self, CODING, MIDDLES, SET, WORD};
+use reference::chain::{self, CODING, MIDDLES, ROUND, SET, WORD};
 use reference::Size;
 
 pub fn valid(size: Size, random: &mut Random) -> Vec<u8> {
@@ -29,6 +29,14 @@ pub fn uniform(size: Size, coding: [u8; CODING], mask: u8) -> Vec<u8> {
     let round = [coding.repeat(MIDDLES), vec![mask; MIDDLES]].concat();
     let sets = coding.repeat(32 * (size.rounds() + 2));
     [sets, round.repeat(size.rounds())].concat()
+}
+
+/// Where the masks at half byte 0 stand in a chain, three for each round: they hide the carries, or borrows, out
+/// of half byte 7.
+pub fn top_masks(size: Size) -> Vec<usize> {
+    let rounds = SET * (size.rounds() + 2);
+    let masks = (0..size.rounds()).map(|l| rounds + ROUND * l + CODING * MIDDLES);
+    masks.flat_map(|at| [at, at + 8, at + 16]).collect()
 }
 
 /// The two kinds of chain: those that a book is built from, and reading chains.
