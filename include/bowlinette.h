@@ -24,9 +24,9 @@ extern "C" {
 #endif
 
 /* The version of this interface. */
-#define BOWLINETTE_VERSION_MAJOR 2
+#define BOWLINETTE_VERSION_MAJOR 3
 #define BOWLINETTE_VERSION_MINOR 0
-#define BOWLINETTE_VERSION "2.0"
+#define BOWLINETTE_VERSION "3.0"
 
 /* What is returned. */
 #define BOWLINETTE_DONE 0
@@ -35,7 +35,7 @@ extern "C" {
 #define BOWLINETTE_REFUSED_NO_PERMUTATION 3 /* a coding is no permutation of 0 to 15 */
 #define BOWLINETTE_REFUSED_WORD_RULE 4      /* word 3 of a set differs from word 0 of the set before; in a
                                                reading chain, word 0 from word 3 */
-#define BOWLINETTE_REFUSED_MASK 5           /* a mask is over 1, or not 0 for half byte 0 */
+#define BOWLINETTE_REFUSED_MASK 5           /* a mask is over 1 */
 #define BOWLINETTE_REFUSED_BOOK_LENGTH 6    /* the book, or reading book, has none of its three lengths */
 #define BOWLINETTE_REFUSED_BLOCK_LENGTH 7   /* the block, IV or tag is not of 16 bytes */
 #define BOWLINETTE_REFUSED_MESSAGE_LENGTH 8 /* the message, coded or sealed or not, has a wrong length */
@@ -179,7 +179,7 @@ static inline const char *bowlinette_text(uint32_t refusal)
         return "Word 3 of a set of the chain is not coded as word 0 of the set before it, or in a "
                "reading chain word 0 as word 3.";
     case BOWLINETTE_REFUSED_MASK:
-        return "A mask of the chain is over 1, or not 0 for half byte 0.";
+        return "A mask of the chain is over 1.";
     case BOWLINETTE_REFUSED_BOOK_LENGTH:
         return "The book, the reading book or the tables of a round have a length that none has.";
     case BOWLINETTE_REFUSED_BLOCK_LENGTH:
@@ -254,7 +254,7 @@ uint32_t bowlinette_check_set(const uint8_t *set, size_t set_length);
 
 /*
  * Checks a chain for keys of a length. A chain holds the message set, the sets 0 to r, and for each
- * of the r rounds 24 middle codings and then 24 masks, a byte each.
+ * of the r rounds 24 middle codings and then 24 masks, a byte each, 0 or 1.
  * Refuses 1 (key length), then 2 (chain length), 3 (permutations), 4 (the word 3 rule), 5 (masks).
  */
 uint32_t bowlinette_check_chain(size_t key_length,
@@ -271,8 +271,8 @@ uint32_t bowlinette_check_reading_chain(size_t key_length,
 /*
  * Makes a chain for keys of key_length bytes from random bytes and writes it to the front of out, which may
  * be longer: the bytes after the chain stay as they were. Drawn are U, the sets, but for the words that the
- * word 3 rule fixes, and for each round its middle codings and its masks, but for those of half byte 0. How
- * many bytes were used up goes to drawn; more may be given, and those after them are not looked at.
+ * word 3 rule fixes, and for each round its middle codings and its 24 masks. How many bytes were used up goes
+ * to drawn; more may be given, and those after them are not looked at.
  * Refuses 1 (key length), 9 (out shorter than the chain), then 32 (fewer random bytes than are drawn).
  * TAKE CARE: the chain is as secret as the random bytes. They are the caller's, from the system's generator
  * (getrandom), and each is used once: a byte that a chain was drawn from must never be given again, to any

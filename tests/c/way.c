@@ -132,19 +132,39 @@ static void make(uint8_t *place, const struct size *s, const uint8_t *set)
     REFUSED(32, make_from(s, set, drawn - 1, s->chain, &room.length));
 }
 
-/* From zeros each coding of a chain has v + 1 at v, and 0 at 15, and each mask is 0; 255 is skipped for ever. */
+/* How many masks of the chain are not this one. */
+static size_t other_masks(const struct size *s, uint8_t mask)
+{
+    size_t i, l, others = 0;
+
+    for (l = 0; l < s->rounds; l++)
+        for (i = 0; i < 24; i++)
+            others += chain[BOWLINETTE_CHAIN_ROUND(s->rounds, l) + BOWLINETTE_ROUND_MASKS + i] != mask;
+    return others;
+}
+
+/*
+ * From zeros each coding of a chain has v + 1 at v, and 0 at 15, and each mask is 0; as none is skipped, the fewest
+ * bytes are drawn. From ones each mask is 1. 255 is skipped for ever.
+ */
 static void chains_of_one_byte(const struct size *s)
 {
+    const size_t fewest = 960 + 744 * s->rounds;
     size_t i, l, others = 0;
 
     memset(noise, 0, sizeof noise);
     make(chain, s, NULL);
+    REFUSED(32, make_from(s, NULL, fewest - 1, s->chain, &room.length));
+    CHECK(make_from(s, NULL, fewest, s->chain, &room.length) == BOWLINETTE_DONE && room.length == fewest);
     for (i = 0; i < BOWLINETTE_CHAIN_ROUND(s->rounds, 0); i++)
         others += chain[i] != (i + 1) % 16;
     for (l = 0; l < s->rounds; l++)
-        for (i = 0; i < BOWLINETTE_ROUND_MASKS + 24; i++)
-            others += chain[BOWLINETTE_CHAIN_ROUND(s->rounds, l) + i] != (i < BOWLINETTE_ROUND_MASKS ? (i + 1) % 16 : 0);
-    CHECK(others == 0);
+        for (i = 0; i < BOWLINETTE_ROUND_MASKS; i++)
+            others += chain[BOWLINETTE_CHAIN_ROUND(s->rounds, l) + i] != (i + 1) % 16;
+    CHECK(others == 0 && other_masks(s, 0) == 0);
+    memset(noise, 1, sizeof noise);
+    make(chain, s, NULL);
+    CHECK(other_masks(s, 1) == 0);
     memset(noise, 255, sizeof noise);
     REFUSED(32, make_from(s, NULL, sizeof noise, s->chain, &room.length));
     REFUSED(32, make_from(s, chain, sizeof noise, s->chain, &room.length));
@@ -221,6 +241,47 @@ static void seal(const struct size *s, size_t n)
     for (i = 0; i + BLOCK < coded_length; i += BLOCK)
         CHECK(bowlinette_block_call(&session, book, s->book, coded + i, BLOCK) == BOWLINETTE_DONE);
     CHECK(bowlinette_last_call(&session, book, s->book, coded + i, BLOCK, kind, tag) == BOWLINETTE_DONE);
+}
+
+/* Turns a mask at half byte 0 the other way round in each of r rounds of a chain: that of one of the three words. */
+static void turn_top_masks(uint8_t *codings, size_t r)
+{
+    size_t l;
+
+    for (l = 0; l < r; l++)
+        codings[BOWLINETTE_CHAIN_ROUND(r, l) + BOWLINETTE_ROUND_MASKS + 8 * (l % 3)] ^= 1;
+}
+
+/* Turns bit 4 of the entries of the tables at half byte 7 of the same words; the first add or subtract table is here. */
+static void turn_top_carries(uint8_t *tables, size_t r)
+{
+    size_t l, k;
+
+    for (l = 0; l < r; l++)
+        for (k = 0; k < 512; k++)
+            tables[BOWLINETTE_ROUND_LENGTH * l + 512 * (8 * (l % 3) + 7) + k] ^= 16;
+}
+
+/* Building a book or a reading book; sealing or reading by it. */
+typedef uint32_t building(const uint8_t *, size_t, const uint8_t *, size_t, uint8_t *, size_t);
+typedef uint32_t passing(const uint8_t *, size_t, const uint8_t *, size_t, const uint8_t *, size_t, uint8_t *, size_t, uint64_t *);
+
+/*
+ * With masks at half byte 0 of its chain the other way round a book of n bytes, whose first add or subtract table is at
+ * a place, differs in those top carries alone, and makes the same of two blocks.
+ */
+static void top_masks(const struct size *s, uint8_t *codings, uint8_t *of, size_t n, size_t place, building *build, passing *pass)
+{
+    uint8_t before[2 * BLOCK], after[2 * BLOCK];
+    uint64_t length = 0;
+
+    CHECK(pass(of, n, iv, BLOCK, noise, sizeof before, before, sizeof before, &length) == BOWLINETTE_DONE);
+    turn_top_masks(codings, s->rounds);
+    CHECK(build(key, s->key, codings, s->chain, room.bytes, n) == BOWLINETTE_DONE);
+    turn_top_carries(of + place, s->rounds);
+    CHECK(memcmp(room.bytes, of, n) == 0);
+    CHECK(pass(of, n, iv, BLOCK, noise, sizeof after, after, sizeof after, &length) == BOWLINETTE_DONE);
+    CHECK(memcmp(after, before, sizeof before) == 0);
 }
 
 /* What was sealed is read: the padded message, coded by the message set of the reading chain. */
@@ -399,6 +460,7 @@ static void refusals_of_the_works(const struct size *s)
 {
     const size_t masks = SET * (s->rounds + 2) + 24 * BOWLINETTE_CODING_LENGTH;
     uint8_t word[SET / 4];
+    size_t place;
 
     CHECK(bowlinette_check_set(chain, SET - 1) == 2);
     CHECK(bowlinette_check_set(message, SET) == 3);
@@ -412,10 +474,10 @@ static void refusals_of_the_works(const struct size *s)
     chain_refused(s, 1, chain[0], 3);
     memcpy(word, chain + SET * 2 + 3 * SET / 4, sizeof word);
     coding(chain + SET * 2 + 3 * SET / 4, 127);
-    chain_refused(s, masks, 0, 4);
+    chain_refused(s, masks, 2, 4);
     memcpy(chain + SET * 2 + 3 * SET / 4, word, sizeof word);
-    chain_refused(s, masks, 1, 5);
-    chain_refused(s, masks + 1, 2, 5);
+    for (place = 0; place < 24; place++)
+        chain_refused(s, masks + place, 2, 5);
     REFUSED(9, bowlinette_build(key, s->key, chain, s->chain, room.bytes, s->book - 1));
     REFUSED(9, bowlinette_build_round(key, s->key, chain, s->chain, 0, room.bytes, BOWLINETTE_ROUND_LENGTH - 1));
 }
@@ -437,6 +499,7 @@ static void refusals_of_the_works_for_reading(const struct size *s)
     const size_t masks = BOWLINETTE_CHAIN_ROUND(s->rounds, 0) + BOWLINETTE_ROUND_MASKS;
     uint8_t *word = reading_chain + BOWLINETTE_CHAIN_SET(s->rounds);
     uint8_t was[SET / 4];
+    size_t place;
 
     CHECK(bowlinette_check_reading_chain(s->key + 1, reading_chain, s->chain) == 1);
     CHECK(bowlinette_check_reading_chain(s->key, reading_chain, s->chain - 1) == 2);
@@ -446,10 +509,10 @@ static void refusals_of_the_works_for_reading(const struct size *s)
     reading_chain_refused(s, masks - 1, 255, 3);
     memcpy(was, word, sizeof was);
     coding(word, 127);
-    reading_chain_refused(s, masks, 1, 4);
+    reading_chain_refused(s, masks, 2, 4);
     memcpy(word, was, sizeof was);
-    reading_chain_refused(s, masks + 8, 1, 5);
-    reading_chain_refused(s, masks + 23, 2, 5);
+    for (place = 0; place < 24; place++)
+        reading_chain_refused(s, masks + place, 2, 5);
     REFUSED(9, bowlinette_build_reading(key, s->key, reading_chain, s->chain, room.bytes, s->reading - 1));
 }
 
@@ -845,6 +908,8 @@ int main(void)
         works(s);
         works_for_reading(s);
         blocks(s);
+        top_masks(s, chain, book, s->book, BOWLINETTE_BOOK_ROUND(0), bowlinette_build, bowlinette_seal);
+        top_masks(s, reading_chain, reading, s->reading, BOWLINETTE_READING_SUBTRACTS, bowlinette_build_reading, bowlinette_read);
         for (n = 0; n < sizeof lengths / sizeof lengths[0]; n++) {
             seal(s, lengths[n]);
             reader(s, lengths[n]);

@@ -103,7 +103,7 @@ static Bytes identities(size_t count)
     return codings;
 }
 
-/* A chain of identities, its masks random but for half byte 0. */
+/* A chain of identities, its masks random. */
 static Bytes chain(const size &size)
 {
     Bytes chain = identities(32 * (size.rounds + 2));
@@ -111,7 +111,7 @@ static Bytes chain(const size &size)
     for (size_t l = 0; l < size.rounds; l++) {
         chain.insert(chain.end(), middles.begin(), middles.end());
         for (size_t place = 0; place < 24; place++)
-            chain.push_back(place % 8 == 0 ? 0 : (uint8_t)below(2));
+            chain.push_back((uint8_t)below(2));
     }
     return chain;
 }
