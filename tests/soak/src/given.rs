@@ -7,6 +7,7 @@ use reference::pad::LONGEST;
 use reference::Size;
 use shared::archive::sealed_text;
 use shared::books::{self, Built};
+use shared::chains::top_masks;
 use shared::ink::{kind, record, remark_length, Owned, REMARK};
 use shared::maker::enough;
 use shared::Random;
@@ -197,10 +198,18 @@ impl<'a> Given<'a> {
             5 => chain.swap(swapped, swapped + 1),
             6 => chain.swap(swapped + 3 * WORD, swapped + 3 * WORD + 1),
             7 => chain[masks + self.random.below(MIDDLES)] = 2 + self.random.below(254) as u8,
-            8 => chain[masks + 8 * self.random.below(3)] = 1,
+            8 => chain[masks + 8 * self.random.below(3)] ^= 2,
             9 => chain.clone_from(&self.built.chain),
             _ => chain.clone_from(&self.reading.chain),
         }
+    }
+
+    /// A chain with some of its masks at half byte 0 the other way round.
+    pub fn other_masks(&mut self, mut chain: Vec<u8>) -> Vec<u8> {
+        for at in top_masks(self.size) {
+            chain[at] ^= self.random.below(2) as u8;
+        }
+        chain
     }
 
     /// The book.

@@ -17,7 +17,7 @@ use shared::ink::{self, judge};
 use shared::maker::make;
 use shared::pad::{code, due, Use};
 use shared::roundtrip;
-use shared::session::{Both, Call};
+use shared::session::{tag, Both, Call};
 use shared::version::{PROVED, REFERENCE};
 use shared::way;
 use std::fmt::Debug;
@@ -44,6 +44,7 @@ impl Round<'_> {
         self.make();
         self.build();
         self.build_reading();
+        self.top_masks();
         self.build_round();
         self.calls();
         self.sealed_way();
@@ -273,6 +274,26 @@ impl Round<'_> {
             assert!(book[..whole] == own.book, "{name}: the book again");
         }
         assert!((key, chain) == before, "{name}: key and chain");
+    }
+
+    /// Books of the same chains with some masks at half byte 0 the other way round: they seal, tag and read as
+    /// the round's own.
+    fn top_masks(&mut self) {
+        let (iv, text) = (self.given.random.block(), self.given.blocks(false));
+        let chain = self.given.other_masks(self.given.built.chain.clone());
+        let reading = self.given.other_masks(self.given.reading.chain.clone());
+        let own = [&self.given.built, &self.given.reading];
+        let (told, book) = build(&own[0].key, &chain, own[0].book.len());
+        self.tally.add("build", told);
+        let (told, reading) = build_reading(&own[1].key, &reading, own[1].book.len());
+        self.tally.add("build_reading", told);
+        let made = |book: &[u8], reading: &[u8]| {
+            let sealed = seal(book, &iv, &text, text.len());
+            let read = read(reading, &iv, &text, text.len());
+            (sealed, read, [0, 1].map(|kind| tag(book, &text, kind)))
+        };
+        let same = made(&book, &reading) == made(&own[0].book, &own[1].book);
+        assert!(same, "masks at half byte 0");
     }
 
     fn build_round(&mut self) {
