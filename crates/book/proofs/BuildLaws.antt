@@ -80,12 +80,12 @@ parts-turn zero u v h = omega arith
 parts-turn (suc zero) u v h = omega arith
 parts-turn (suc (suc i)) u v h = omega arith
 
-upper-lt : (i j : ℕ) → upper i j < 8
+pub upper-lt : (i j : ℕ) → upper i j < 8
 upper-lt zero j = omega arith
 upper-lt (suc zero) j = omega arith
 upper-lt (suc (suc i)) j = omega arith
 
-lower-lt : (i j : ℕ) → j < 8 → lower i j < 8
+pub lower-lt : (i j : ℕ) → j < 8 → lower i j < 8
 lower-lt zero j h = omega arith
 lower-lt (suc zero) j h = omega arith
 lower-lt (suc (suc i)) j h = h
@@ -133,12 +133,12 @@ module _ (B A R K : List ℕ) (ready : RoundReady B A R) where
       let hm = mask-bit i j (omega arith) (omega arith) in
       let low = inverse-below 32 B (ready .before) in
       sums-are (inverted 32 B) (inverted 32 B) (16 * p) (16 * p + 128) k l (maskInto R i j) low low hk hl hm (sumEntries R p)
-      ∙ sym (add-rows (codingAt B (8 * i + j)) (codingAt B (8 * suc i + j)) (codingAt R (8 * i + j)) j k l (maskInto R i j) (maskOutOf R i j)
+      ∙ sym (add-rows (codingAt B (8 * i + j)) (codingAt B (8 * suc i + j)) (codingAt R (8 * i + j)) k l (maskInto R i j) (maskOutOf R i j)
       (ready .before (8 * i + j) (omega arith)) (ready .before (8 * suc i + j) (omega arith)) hk hl hm
       (keyedBy (inverted 32 B) (16 * p) k) (keyedBy (inverted 32 B) (16 * p + 128) l) (sumEntries R p)
       (λ v hv. ap (λ (y : ℕ). bitXor y k) (inverse-at 32 B (16 * p + v) (8 * i + j) v (omega arith) hv (omega arith)))
       (λ v hv. ap (λ (y : ℕ). bitXor y l) (inverse-at 32 B (16 * p + 128 + v) (8 * suc i + j) v (omega arith) hv (omega arith)))
-      (λ v hv. ap (λ (y : ℕ). addEntry j (codingAt R y) (maskOutOf R i j) v) e))
+      (λ v hv. ap (λ (y : ℕ). addEntry (codingAt R y) (maskOutOf R i j) v) e))
 
   turn-is : (p : ℕ) → p < 24 → madeTurn (inverted 24 R) A p ≡ tab turnLength (turnTable (codingsOf B A R) (p / 8) (p % 8))
   unfolding madeTurn turnTable codingsOf
@@ -208,8 +208,8 @@ module _ {from to : ℕ} (z : KeySize) (ch : List ℕ) (h : ChainBy from to z ch
 
   masks-are : (l : ℕ) → l < rounds z → (k : ℕ) → 384 ≤ k → k < 408 → getD (roundBytes (rounds z) ch l) k 0 < 2
   masks-are l hl k hk hk' =
-      let e : 384 + (8 * ((k - 384) / 8) + (k - 384) % 8) ≡ k = omega arith in
-      let p = h .masks .bits l ((k - 384) / 8) ((k - 384) % 8) hl (omega arith) (omega arith) in
+      let e : 384 + (k - 384) ≡ k = omega arith in
+      let p = h .masks l (k - 384) hl (omega arith) in
       rw e at p
 
   module _ (l : ℕ) (B A R : List ℕ) (b a n : ℕ) (hl : l < rounds z) (eB : B ≡ drop b ch) (eA : A ≡ drop a ch) (eR : R ≡ drop n ch)

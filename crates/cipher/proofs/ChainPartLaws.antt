@@ -112,11 +112,8 @@ module _ (r : ℕ) (U : Set) (S G : ℕ → Set) (M : ℕ → ℕ → ℕ) where
     words-from h l hl j v hj hv =
         sym (set-read (suc l) to j v hl ht hj hv) ∙ h l hl j v hj hv ∙ set-read l from j v (omega arith) hf hj hv
 
-  pub from-masks : ((l k : ℕ) → l < r → k < 24 → M l k < 2) → ((l i : ℕ) → l < r → i < 3 → M l (8 * i) ≡ 0) → MaskRule r made
-  from-masks b f = record {
-    bits = λ l i j hl hi hj. rw (mask-read l (8 * i + j) hl (omega arith)) (b l (8 * i + j) hl (omega arith));
-    firsts = λ l i hl hi. mask-read l (8 * i) hl (omega arith) ∙ f l i hl hi;
-  }
+  pub from-masks : ((l k : ℕ) → l < r → k < 24 → M l k < 2) → MaskRule r made
+  from-masks b l k hl hk = rw (mask-read l k hl hk) (b l k hl hk)
 
 -- ---- it is valid exactly where its parts are
 
@@ -129,7 +126,7 @@ module _ (from to : ℕ) (hf : from < 4) (ht : to < 4) (z : KeySize) (U : Set) (
     size = from-length r U S G M ∙ omega arith;
     codings = from-codings r U S G M from to h;
     words = from-words r U S G M from to hf ht (h .words);
-    masks = from-masks r U S G M (h .bits) (h .firsts);
+    masks = from-masks r U S G M (h .bits);
   }
 
   pub valid-from : ChainBy from to z (chainFrom r U S G M) → ValidParts from to r U S G M
@@ -141,12 +138,7 @@ module _ (from to : ℕ) (hf : from < 4) (ht : to < 4) (z : KeySize) (U : Set) (
     middles = λ l i j hl hi hj. once-ext 16 16 (middleSet r (chainFrom r U S G M) l i j) (G l i j)
         (λ v hv. middle-read r U S G M l i j v hl hi hj hv) (h .codings .middles l i j hl hi hj);
     words = words-from r U S G M from to hf ht (h .words);
-    bits = λ l k hl hk.
-        let e : 8 * (k / 8) + k % 8 ≡ k = omega arith in
-        let b = h .masks .bits l (k / 8) (k % 8) hl (omega arith) (omega arith) in
-        let c : maskAt r (chainFrom r U S G M) l k < 2 = rw e at b in
-        rw (sym (mask-read r U S G M l k hl hk)) c;
-    firsts = λ l i hl hi. sym (mask-read r U S G M l (8 * i) hl (omega arith)) ∙ h .masks .firsts l i hl hi;
+    bits = λ l k hl hk. rw (sym (mask-read r U S G M l k hl hk)) (h .masks l k hl hk);
   }
 
 -- ---- a chain has nothing besides its parts

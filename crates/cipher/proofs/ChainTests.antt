@@ -1,10 +1,10 @@
 -- The tests of sets and chains say what they should, both ways: each is passed exactly where its rule holds, so the tests
 -- 2 to 5 let through the valid chains and no others.
 use mathlib.Core.Path.{_≡_, refl, sym, ap, _∙_, subst}
-use mathlib.Core.Bool.{Bool, true, false, not, cond, _&&_}
+use mathlib.Core.Bool.{Bool, true, false, not, _&&_}
 use mathlib.Core.List.{List}
 use Prim.Native.Nat.{ℕ, zero, suc, _+_, _*_, _/_, _%_, _≤_, _<_}
-use native.Mathlib.Decide.{decLt, ℕ-discrete}
+use native.Mathlib.Decide.{decLt}
 use native.Mathlib.Omega.{arith}
 use borrow.Author.Tests.{ltb-true, lt-ltb, eqb-true, eq-eqb, ne-eqb, eqb-false, not-true, not-false}
 use lib.Dec.{ltb, eqb, lit<}
@@ -17,7 +17,7 @@ use Rattle.cipher.specs.KeySize.{rounds, chainLength}
 use Rattle.cipher.specs.Coding.{OneToOne, Permutation, Permutations, SameWord, codingAt, setOf}
 use Rattle.cipher.specs.Tables.{ValidCodings, ValidRound}
 use Rattle.cipher.specs.Chain.{roundBytes, maskAt, maskIn, roundCodings, CodingRule, SameWords, MaskRule, ChainBy, LoneSet}
-use Rattle.cipher.specs.Chain.{isOneToOne, arePermutations, codingRuleHolds, wordKept, wordsKept, maskLimit, maskRuleHolds, setTests, chainTestsBy}
+use Rattle.cipher.specs.Chain.{isOneToOne, arePermutations, codingRuleHolds, wordKept, wordsKept, maskRuleHolds, setTests, chainTestsBy}
 use Rattle.cipher.specs.Lengths.{setLength}
 use Rattle.cipher.specs.declared.size.KeySize.{KeySize}
 use Rattle.cipher.proofs.Permutation.{once-ext}
@@ -168,49 +168,17 @@ module _ (r : ℕ) (ch : List ℕ) where
           subst (λ (f : ℕ → ℕ). Permutation f) (coding-in ch m (8 * (k / 8 % 4) + k % 8) ∙ ap (λ (n : ℕ). codingAt ch n) a)
           (h .sets m (omega arith) (k / 8 % 4) (k % 8) (omega arith) (omega arith))
 
-  limit-le : (k : ℕ) → maskLimit k ≤ 2
-  limit-le k = go (eqb (k % 8) 0)
-    where
-      go : (b : Bool) → cond b 1 2 ≤ 2
-      go true = omega arith
-      go false = omega arith
-
   pub masks-tested : maskRuleHolds r ch ≡ true → MaskRule r ch
   unfolding maskRuleHolds
-  masks-tested t = record {
-    bits = λ l i j hl hi hj. bit l i j hl hi hj;
-    firsts = λ l i hl hi. start l i hl hi;
-  }
-    where
-      under : (l k : ℕ) → l < r → k < 24 → maskAt r ch l k < maskLimit k
-      under l k hl hk =
-          ltb-true (maskAt r ch l k) (maskLimit k)
-          (every-all 24 (λ k. ltb (maskAt r ch l k) (maskLimit k)) (every-all r (λ l. every 24 (λ k. ltb (maskAt r ch l k) (maskLimit k))) t l hl) k hk)
-
-      bit : (l i j : ℕ) → l < r → i < 3 → j < 8 → maskAt r ch l (8 * i + j) < 2
-      bit l i j hl hi hj = omega (arith, under l (8 * i + j) hl (omega arith), limit-le (8 * i + j))
-
-      start : (l i : ℕ) → l < r → i < 3 → maskAt r ch l (8 * i) ≡ 0
-      start l i hl hi =
-          let e : maskLimit (8 * i) ≡ 1 = rw (eq-eqb (8 * i % 8) 0 (omega arith)) in
-          let u = under l (8 * i) hl (omega arith) in
-          omega arith
+  masks-tested t l k hl hk =
+      ltb-true (maskAt r ch l k) 2
+      (every-all 24 (λ k. ltb (maskAt r ch l k) 2) (every-all r (λ l. every 24 (λ k. ltb (maskAt r ch l k) 2)) t l hl) k hk)
 
   pub tested-masks : MaskRule r ch → maskRuleHolds r ch ≡ true
   unfolding maskRuleHolds
   tested-masks h =
-      all-every r (λ l. every 24 (λ k. ltb (maskAt r ch l k) (maskLimit k))) (λ l hl.
-      all-every 24 (λ k. ltb (maskAt r ch l k) (maskLimit k)) (λ k hk.
-      lt-ltb (maskAt r ch l k) (maskLimit k) (under l k hl hk (ℕ-discrete (k % 8) 0))))
-    where
-      under : (l k : ℕ) → l < r → k < 24 → Dec (k % 8 ≡ 0) → maskAt r ch l k < maskLimit k
-      under l k hl hk (yes e) =
-          let a : 8 * (k / 8) ≡ k = omega arith in
-          let b = h .firsts l (k / 8) hl (omega arith) in
-          rw (eq-eqb (k % 8) 0 e) (subst (λ (n : ℕ). maskAt r ch l n < 1) a (rw b (lit< tt)))
-      under l k hl hk (no e) =
-          rw (ne-eqb (k % 8) 0 e)
-          (subst (λ (n : ℕ). maskAt r ch l n < 2) (place k) (h .bits l (k / 8) (k % 8) hl (omega arith) (omega arith)))
+      all-every r (λ l. every 24 (λ k. ltb (maskAt r ch l k) 2)) (λ l hl.
+      all-every 24 (λ k. ltb (maskAt r ch l k) 2) (λ k hk. lt-ltb (maskAt r ch l k) 2 (h l k hl hk)))
 
   -- what a round of the tables asks of the chain
   pub valid-codings : CodingRule r ch → MaskRule r ch → (l : ℕ) → l < r → ValidCodings (roundCodings r ch l)
@@ -226,7 +194,7 @@ module _ (r : ℕ) (ch : List ℕ) where
     where
       bit : (i j : ℕ) → i < 3 → j < 8 → maskIn r ch l i j < 2
       bit i zero hi hj = lit< tt
-      bit i (suc j) hi hj = m .bits l i (suc j) h hi hj
+      bit i (suc j) hi hj = m l (8 * i + suc j) h (omega arith)
 
   pub valid-round : CodingRule r ch → SameWords 0 3 r ch → MaskRule r ch → (l : ℕ) → l < r → ValidRound (roundCodings r ch l)
   valid-round c w m l h = record { codings = valid-codings c m l h; word3 = unfold roundCodings in w l h }

@@ -1,24 +1,14 @@
--- Laws of single tables: the carry that an entry holds, how large a sum is, and each table as rows of sixteen, from codings
--- inverted beforehand, as a builder fills it.
+-- Laws of single tables: how large a sum is, and each table as rows of sixteen, from codings inverted beforehand, as a builder
+-- fills it.
 use mathlib.Core.Path.{_≡_, ap, _∙_}
-use Prim.Native.Nat.{ℕ, zero, suc, _+_, _*_, _/_, _%_, _≤_, _<_}
+use Prim.Native.Nat.{ℕ, zero, suc, _+_, _*_, _/_, _%_, _<_}
 use native.Mathlib.Omega.{arith}
-use borrow.Author.Tests.{lt-ltb, le-ltb}
 use lib.Bits.{bitXor, xor-lt}
 use Rattle.lists.specs.Tabulation.{tab, chunks}
 use Rattle.lists.proofs.ChunkLaws.{tab-rows}
 use Rattle.cipher.specs.Coding.{Permutation, decode}
-use Rattle.cipher.specs.Tables.{addSum, carryHeld, addEntry, turned, turnEntry, foldEntry}
+use Rattle.cipher.specs.Tables.{addSum, addEntry, turned, turnEntry, foldEntry}
 use Rattle.cipher.proofs.Permutation.{decode-lt}
-
--- below the top half byte the carry is held under its mask, in the top one not at all
-pub carry-held : (j c m : ℕ) → j < 7 → carryHeld j c m ≡ bitXor c m
-unfolding carryHeld
-carry-held j c m h = rw (lt-ltb j 7 h)
-
-pub carry-top : (j c m : ℕ) → 7 ≤ j → carryHeld j c m ≡ 0
-unfolding carryHeld
-carry-top j c m h = rw (le-ltb j 7 h)
 
 module _ (f g : ℕ → ℕ) (p : Permutation f) (q : Permutation g) where
   pub sum-below : (k l m n : ℕ) → k < 16 → l < 16 → m < 2 → n < 512 → addSum f g k l m n < 32
@@ -37,13 +27,13 @@ turned-lt (suc (suc i)) u v = omega arith
 -- ---- tables as rows of sixteen
 
 -- an add table: a and b hold the operands decoded and keyed, e the entry of each sum
-pub add-rows : (f g h : ℕ → ℕ) (j k l m m' : ℕ) → Permutation f → Permutation g → k < 16 → l < 16 → m < 2 → (a b e : ℕ → ℕ)
+pub add-rows : (f g h : ℕ → ℕ) (k l m m' : ℕ) → Permutation f → Permutation g → k < 16 → l < 16 → m < 2 → (a b e : ℕ → ℕ)
     → ((p : ℕ) → p < 16 → bitXor (decode f p) k ≡ a p) → ((q : ℕ) → q < 16 → bitXor (decode g q) l ≡ b q)
-    → ((s : ℕ) → s < 32 → addEntry j h m' s ≡ e s)
-    → tab 512 (λ n. addEntry j h m' (addSum f g k l m n)) ≡ chunks 32 (λ x. tab 16 (λ q. e (a (x % 16) + b q + bitXor (x / 16) m)))
+    → ((s : ℕ) → s < 32 → addEntry h m' s ≡ e s)
+    → tab 512 (λ n. addEntry h m' (addSum f g k l m n)) ≡ chunks 32 (λ x. tab 16 (λ q. e (a (x % 16) + b q + bitXor (x / 16) m)))
 unfolding addSum
-add-rows f g h j k l m m' pf pg hk hl hm a b e ea eb ee =
-    tab-rows 32 16 (λ n. addEntry j h m' (addSum f g k l m n)) (λ x q. e (a (x % 16) + b q + bitXor (x / 16) m)) (λ x q hx hq.
+add-rows f g h k l m m' pf pg hk hl hm a b e ea eb ee =
+    tab-rows 32 16 (λ n. addEntry h m' (addSum f g k l m n)) (λ x q. e (a (x % 16) + b q + bitXor (x / 16) m)) (λ x q hx hq.
     ee (addSum f g k l m (x * 16 + q)) (sum-below f g pf pg k l m (x * 16 + q) hk hl hm (omega arith)) ∙ ap e (at x q hx hq))
   where
     at : (x q : ℕ) → x < 32 → q < 16 → addSum f g k l m (x * 16 + q) ≡ a (x % 16) + b q + bitXor (x / 16) m

@@ -10,8 +10,7 @@ use Rattle.lists.proofs.HalfByteLaws.{half-lt}
 use Rattle.lists.proofs.XorLaws.{xor-cancel}
 use Rattle.cipher.specs.Word.{add}
 use Rattle.cipher.specs.Coding.{decode}
-use Rattle.cipher.specs.Tables.{addSum, carryHeld, addEntry}
-use Rattle.cipher.proofs.TableLaws.{carry-held}
+use Rattle.cipher.specs.Tables.{addSum, addEntry}
 use Rattle.cipher.proofs.RippleAdd.{carryInto, carry-next, carry-lt, half-add}
 
 -- what eight add tables are built from, by half byte: the codings of the operands and of the sum, the key half bytes of the operands,
@@ -28,7 +27,7 @@ pub record Run : Type 0 where
 -- T j n is entry n of table j, and what the law asks of codings and masks
 pub record RunTables (r : Run) (T : ℕ → ℕ → ℕ) : Type 0 where
   pub entries : (j n : ℕ) → j < 8 → n < 512
-      → T j n ≡ addEntry j (r .sum j) (r .maskOut j) (addSum (r .left j) (r .right j) (r .keyLeft j) (r .keyRight j) (r .maskIn j) n)
+      → T j n ≡ addEntry (r .sum j) (r .maskOut j) (addSum (r .left j) (r .right j) (r .keyLeft j) (r .keyRight j) (r .maskIn j) n)
   pub low : (j x : ℕ) → j < 8 → x < 16 → r .sum j x < 16
   pub bit : (j : ℕ) → j < 8 → r .maskIn j < 2
   pub none : r .maskIn 0 ≡ 0
@@ -53,7 +52,7 @@ module _ (r : Run) (T : ℕ → ℕ → ℕ) (h : RunTables r T) (p q : ℕ → 
 
   -- the entry read at half byte j: the next carry above the coded half byte of the sum
   entry-is : (j : ℕ) → j < 8 → c j ≡ bitXor (carryInto 0 X Y j) (r .maskIn j)
-      → T j (256 * c j + 16 * p j + q j) ≡ 16 * carryHeld j (carryInto 0 X Y (suc j)) (r .maskOut j) + r .sum j (halfByte (add X Y) j)
+      → T j (256 * c j + 16 * p j + q j) ≡ 16 * bitXor (carryInto 0 X Y (suc j)) (r .maskOut j) + r .sum j (halfByte (add X Y) j)
   unfolding addEntry
   entry-is j hj e =
       let a = hp j hj in
@@ -68,7 +67,7 @@ module _ (r : Run) (T : ℕ → ℕ → ℕ) (h : RunTables r T) (p q : ℕ → 
       let l : j < 8 = omega arith in
       let d = xor-lt 1 (carryInto 0 X Y (suc j)) (r .maskIn (suc j)) (carry-lt 0 X Y (suc j) (lit< tt)) (h .bit (suc j) hj) in
       let g = h .low j (halfByte (add X Y) j) l (half-lt (add X Y) j) in
-      rw (c-next j, entry-is j l (carry-is j l), carry-held j (carryInto 0 X Y (suc j)) (r .maskOut j) (omega arith), h .next j (omega arith)) (omega arith)
+      rw (c-next j, entry-is j l (carry-is j l), h .next j (omega arith)) (omega arith)
 
   pub ripple : (j : ℕ) → j < 8 → T j (256 * c j + 16 * p j + q j) % 16 ≡ r .sum j (halfByte (add X Y) j)
   ripple j hj =

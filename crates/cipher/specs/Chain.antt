@@ -2,7 +2,7 @@
 -- its terms): where everything stands in the bytes of a chain of r rounds, when a chain is valid, and the tests of the
 -- refusals 2 to 5 ("Refusals from the input").
 use mathlib.Core.Path.{_≡_}
-use mathlib.Core.Bool.{Bool, not, cond, _&&_}
+use mathlib.Core.Bool.{Bool, not, _&&_}
 use mathlib.Core.List.{List, [], _∷_}
 use Prim.Native.Nat.{ℕ, zero, suc, _+_, _*_, _%_, _≤_, _<_}
 use lib.Dec.{ltb, eqb}
@@ -35,12 +35,12 @@ middleSet r ch l = setOf (roundBytes r ch l)
 abbrev pub maskByte : List ℕ → ℕ → ℕ
 maskByte s k = getD s (middlesLength + k) 0
 
--- the mask of the carry into half byte j of sum i, at place 8i + j; the carry into half byte 0 has none
+-- the mask of the carry into half byte j of sum i, at place 8i + j; the carry into half byte 0 has none, whatever stands there
 abbrev pub maskInto : List ℕ → ℕ → ℕ → ℕ
 maskInto s i zero = 0
 maskInto s i (suc j) = maskByte s (8 * i + suc j)
 
--- the mask of the carry out of half byte j of sum i: that of the next half byte, counted mod 8
+-- the mask of the carry out of half byte j of sum i: that of the next half byte, and for the top one that at place 8i (02, 2026-06)
 abbrev pub maskOutOf : List ℕ → ℕ → ℕ → ℕ
 maskOutOf s i j = maskByte s (8 * i + suc j % 8)
 
@@ -76,10 +76,9 @@ pub record CodingRule (r : ℕ) (ch : List ℕ) : Type 0 where
 abbrev pub SameWords : ℕ → ℕ → ℕ → List ℕ → Type 0
 SameWords from to r ch = (l : ℕ) → l < r → SameWord from to (chainSet ch l) (chainSet ch (suc l))
 
--- masks are bits, and none is set where j is 0
-pub record MaskRule (r : ℕ) (ch : List ℕ) : Type 0 where
-  pub bits : (l i j : ℕ) → l < r → i < 3 → j < 8 → maskAt r ch l (8 * i + j) < 2
-  pub firsts : (l i : ℕ) → l < r → i < 3 → maskAt r ch l (8 * i) ≡ 0
+-- masks are bits (02, 2026-06: those at j = 0 too)
+abbrev pub MaskRule : ℕ → List ℕ → Type 0
+MaskRule r ch = (l k : ℕ) → l < r → k < 24 → maskAt r ch l k < 2
 
 -- a chain for a key of size z that is valid with the word rule that goes from one word to another
 pub record ChainBy (from to : ℕ) (z : KeySize) (ch : List ℕ) : Type 0 where
@@ -119,13 +118,9 @@ wordKept from to before after = every wordLength (λ k. eqb (getD after (wordLen
 unfoldable pub wordsKept : ℕ → ℕ → ℕ → List ℕ → Bool
 wordsKept from to r ch = every r (λ l. wordKept from to (drop (setLength * suc l) ch) (drop (setLength * suc (suc l)) ch))
 
--- what the mask at place k must be below
-abbrev pub maskLimit : ℕ → ℕ
-maskLimit k = cond (eqb (k % 8) 0) 1 2
-
 -- the masks of a round, whose bytes s begins with
 abbrev pub masksHold : List ℕ → Bool
-masksHold s = every 24 (λ k. ltb (maskByte s k) (maskLimit k))
+masksHold s = every 24 (λ k. ltb (maskByte s k) 2)
 
 unfoldable pub maskRuleHolds : ℕ → List ℕ → Bool
 maskRuleHolds r ch = every r (λ l. masksHold (roundBytes r ch l))

@@ -1,7 +1,6 @@
 -- A chain put together from its parts, and what these must be for it to be valid.
-use mathlib.Core.Path.{_≡_}
 use mathlib.Core.List.{List, _++_}
-use Prim.Native.Nat.{ℕ, suc, _*_, _≤_, _<_}
+use Prim.Native.Nat.{ℕ, suc, _≤_, _<_}
 use Rattle.lists.specs.Tabulation.{tab, chunks, tables}
 use Rattle.cipher.specs.Lengths.{codingLength}
 use Rattle.cipher.specs.Coding.{Permutation, Permutations, Set, SameWord}
@@ -25,4 +24,3 @@ pub record ValidParts (from to r : ℕ) (U : Set) (S G : ℕ → Set) (M : ℕ �
   pub middles : (l i j : ℕ) → l < r → i < 3 → j < 8 → Permutation (G l i j)
   pub words : (l : ℕ) → l < r → SameWord from to (S l) (S (suc l))
   pub bits : (l k : ℕ) → l < r → k < 24 → M l k < 2
-  pub firsts : (l i : ℕ) → l < r → i < 3 → M l (8 * i) ≡ 0

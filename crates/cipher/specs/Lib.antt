@@ -12,6 +12,7 @@ pub mod Tables
 pub mod Chain
 pub mod SeenCount
 pub mod ChainParts
+pub mod Examples
 pub mod Book
 pub mod Answers
 pub mod Vectors

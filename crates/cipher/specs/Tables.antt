@@ -1,11 +1,9 @@
 -- What the tables of a book hold (document 01, "Book"), and how a reader uses them (the end of "Book", and the driver's
 -- paragraph of "Pad, driver, archive"). Book, middle coding, mask, turn and fold are 01's terms.
-use mathlib.Core.Bool.{cond}
 use mathlib.Core.List.{List}
 use mathlib.Core.Path.{_≡_}
 use Prim.Native.Nat.{ℕ, zero, suc, _+_, _*_, _/_, _%_, _<_}
 use lib.Bits.{bitXor}
-use lib.Dec.{ltb}
 use lib.ListN.{getD}
 use Rattle.lists.specs.HalfBytes.{halfByte}
 use Rattle.cipher.specs.Lengths.{addLength, turnLength, foldLength, addsLength}
@@ -18,13 +16,9 @@ use Rattle.cipher.specs.Coding.{Permutation, Permutations, Set, SameWord
 unfoldable pub addSum : (ℕ → ℕ) → (ℕ → ℕ) → ℕ → ℕ → ℕ → ℕ → ℕ
 addSum f g k l m n = bitXor (decode f (n / 16 % 16)) k + bitXor (decode g (n % 16)) l + bitXor (n / 256) m
 
--- the carry in an entry for half byte j: c under its mask m; the top half byte keeps none
-unfoldable pub carryHeld : ℕ → ℕ → ℕ → ℕ
-carryHeld j c m = cond (ltb j 7) (bitXor c m) 0
-
--- an add entry for half byte j, of the sum s: h is the middle coding (01's term), m the mask of the carry out
-unfoldable pub addEntry : ℕ → (ℕ → ℕ) → ℕ → ℕ → ℕ
-addEntry j h m s = 16 * carryHeld j (s / 16) m + h (s % 16)
+-- an add entry, of the sum s: h is the middle coding (01's term), m the mask of the carry out
+unfoldable pub addEntry : (ℕ → ℕ) → ℕ → ℕ → ℕ
+addEntry h m s = 16 * bitXor (s / 16) m + h (s % 16)
 
 -- a turn (01's term): two neighbouring half bytes u, v of sum i make one of new word i
 abbrev pub turned : ℕ → ℕ → ℕ → ℕ
@@ -70,7 +64,7 @@ pub record ValidRound (c : RoundCodings) : Type 0 where
 -- entry n of add table (i, j) of a round, under its row k of round keys
 unfoldable pub addTable : RoundCodings → List ℕ → ℕ → ℕ → ℕ → ℕ
 addTable c k i j n =
-    addEntry j (c .middle i j) (c .maskOut i j)
+    addEntry (c .middle i j) (c .maskOut i j)
     (addSum (c .before i j) (c .before (suc i) j) (halfByte (getD k (2 * i) 0) j) (halfByte (getD k (2 * i + 1) 0) j) (c .maskIn i j) n)
 
 -- which half bytes of sum i are turned to half byte j of new word i, the upper one and the lower one

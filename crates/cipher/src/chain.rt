@@ -109,20 +109,13 @@ pub fn words_kept(chain: &[u8], r: usize, from: usize, to: usize) -> bool
     true
 }
 
-// What the mask at place k must be below: where the carry goes into half byte 0, it must be 0.
-fn mask_limit(k: usize) -> u8
-    ensures { λ r. ⌜ r ≡ C.maskLimit k ⌝ }
-{
-    if k % lengths::HALVES == 0 { 1 } else { 2 }
-}
-
 // Whether the masks of a round hold, whose bytes s begins with.
 fn masks_hold(s: &[u8]) -> bool
     requires { ⌜ roundCodingsLength ≤ length (now s) ⌝ }
     ensures { λ r. ⌜ r ≡ C.masksHold (now (s .entry)) ⌝ }
 {
     for k in 0..lengths::MIDDLES {
-        if mask_limit(k) <= s[lengths::MASKS + k] {
+        if 1 < s[lengths::MASKS + k] {
             return false;
         }
     }

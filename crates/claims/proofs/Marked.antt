@@ -6,12 +6,13 @@ use Prim.Native.Nat.{ℕ, _+_, _-_}
 use native.Mathlib.Omega.{arith}
 use lib.ListN.{length, getD, length-append}
 use lib.Seq.{getD-append-add}
-use Rattle.lists.specs.Tabulation.{tab}
+use Rattle.lists.specs.Tabulation.{tab, chunks, tables}
 use Rattle.lists.specs.HalfBytes.{halfByte}
 use Rattle.lists.specs.Every.{every}
 use Rattle.cipher.specs.Cmac.{double}
 use Rattle.cipher.specs.Coding.{placeOf, decode}
-use Rattle.cipher.specs.Tables.{addSum, carryHeld, addEntry, turnEntry, addTable, turnTable}
+use Rattle.cipher.specs.ChainParts.{codingBytes}
+use Rattle.cipher.specs.Tables.{addSum, addEntry, turnEntry, addTable, turnTable}
 use Rattle.cipher.proofs.Vectors.{vector16}
 use Rattle.pad.specs.Padding.{paddedForSealing, paddedForTag, fillsBlocks, kindOf}
 use Rattle.pad.proofs.PadLaws.{kind-whole, kind-part, sealing-blocks, tag-blocks}
@@ -54,12 +55,15 @@ refused-11 end bad key set iv sealed out front z e v l d w t = open-11 key set i
 -- ---- the table
 
 pub marked : Marked
-unfolding addTable addEntry addSum carryHeld turnTable turnEntry decode placeOf halfByte double tab paddedForSealing paddedForTag fillsBlocks kindOf
+unfolding addTable addEntry addSum turnTable turnEntry decode placeOf halfByte codingBytes tables chunks tab double paddedForSealing paddedForTag fillsBlocks kindOf
 marked = record {
   lea = vector16;
   add = refl;
   add-mask = refl;
   add-top = refl;
+  add-top-mask = refl;
+  add-top-next = refl;
+  add-first = refl;
   add-most = refl;
   add-keyed = refl;
   turn-0 = refl;

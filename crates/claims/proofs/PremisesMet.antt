@@ -2,13 +2,11 @@
 -- the identity; with either and every key of that size a book is built. And so can those of the review screen's (document 02, 2026-01),
 -- by a reading chain of which no coding is the identity. So none of the theorems is empty.
 use mathlib.Core.Path.{_≡_, refl, sym, ap, _∙_}
-use mathlib.Core.Bool.{Bool, true, false, cond}
 use mathlib.Core.List.{List, _++_}
 use Prim.Native.Nat.{ℕ, suc, _+_, _*_, _/_, _%_, _≤_, _<_, zero-le}
 use native.Mathlib.Nat.{le-refl}
 use native.Mathlib.Omega.{arith}
-use borrow.Author.Tests.{eq-eqb, ne-eqb}
-use lib.Dec.{eqb, lit<}
+use lib.Dec.{lit<}
 use lib.ListN.{length, drop, length-drop}
 use lib.Seq.{ext-getD, getD-take, length-take-le}
 use Rattle.lists.specs.Blocks.{Bytes, blockLength}
@@ -46,15 +44,10 @@ identity-valid z =
       middles = λ l i j hl hi hj. identity-permutes;
       words = λ l hl j v hj hv. refl;
       bits = λ l k hl hk. lit< tt;
-      firsts = λ l i hl hi. refl;
     })
 
 shifted-permutes : (k : ℕ) → Permutation (shift k)
 shifted-permutes k = record { low = λ i l. omega arith; once = λ i m l n e. omega arith }
-
-mask-bit : (b : Bool) → cond b 0 1 < 2
-mask-bit true = lit< tt
-mask-bit false = lit< tt
 
 -- the chains that shift, with the word rule that they keep
 shifting-valid : (c from to : ℕ) → from < 4 → to < 4 → ((l j : ℕ) → shiftAt c (suc l) to j ≡ shiftAt c l from j) → (z : KeySize) → ChainBy from to z (shiftingChain c z)
@@ -66,8 +59,7 @@ shifting-valid c from to hf ht same z =
       sets = λ l hl w j hw hj. shifted-permutes (shiftAt c l w j);
       middles = λ l i j hl hi hj. shifted-permutes (shiftAt c l i j);
       words = λ l hl j v hj hv. ap (λ (k : ℕ). shift k v) (same l j);
-      bits = λ l k hl hk. mask-bit (eqb (k % 8) 0);
-      firsts = λ l i hl hi. ap (λ (b : Bool). cond b 0 1) (eq-eqb (8 * i % 8) 0 (omega arith));
+      bits = λ l k hl hk. lit< tt;
     })
 
 pub shifted-valid : (z : KeySize) → Chain z (shiftedChain z)
@@ -131,10 +123,9 @@ module _ (c : ℕ) (z : KeySize) where
   unfolding shiftingChain
   middle-moves l i j hl hi hj = moves _ (shiftAt c l i j) (middle-read r _ _ _ _ l i j 0 hl hi hj (lit< tt)) (near (c * l + i) j hj)
 
-  pub mask-set : (l i j : ℕ) → l < r → i < 3 → j < 7 → maskAt r (shiftingChain c z) l (8 * i + suc j) ≡ 1
+  pub mask-set : (l k : ℕ) → l < r → k < 24 → maskAt r (shiftingChain c z) l k ≡ 1
   unfolding shiftingChain
-  mask-set l i j hl hi hj =
-      mask-read r _ _ _ _ l (8 * i + suc j) hl (omega arith) ∙ ap (λ (b : Bool). cond b 0 1) (ne-eqb ((8 * i + suc j) % 8) 0 (λ e. omega arith))
+  mask-set l k hl hk = mask-read r _ _ _ _ l k hl hk
 
 -- ---- with the identity chain and with the one that shifts a book is built, into every buffer that has room for it
 

@@ -1,16 +1,18 @@
--- Document 01's "Table of examples": its marked examples, each as what is to hold of the definitions.
+-- Document 01's "Table of examples": its marked examples, each as what is to hold of the definitions, and those of document 02,
+-- 2026-06, in the place of the one at j = 7.
 use mathlib.Core.Path.{_≡_}
 use mathlib.Core.Bool.{false}
 use mathlib.Core.List.{List, [], _∷_, _++_}
-use Prim.Native.Nat.{ℕ, zero, suc, _+_, _*_, _≤_}
+use Prim.Native.Nat.{ℕ, _≤_}
 use lib.ListN.{length, replicate}
 use Rattle.lists.specs.Blocks.{blockLength}
 use Rattle.cipher.specs.KeySize.{sizeOfKey}
 use Rattle.cipher.specs.Lea.{encipher, decipher}
 use Rattle.cipher.specs.Cmac.{double}
 use Rattle.cipher.specs.Coding.{setOf}
-use Rattle.cipher.specs.Tables.{RoundCodings, addTable, turnTable}
+use Rattle.cipher.specs.Tables.{addTable, turnTable}
 use Rattle.cipher.specs.Chain.{LoneSet}
+use Rattle.cipher.specs.Examples.{identityRound, none, only, triple, pair}
 use Rattle.cipher.specs.Answers.{badText}
 use Rattle.cipher.specs.Vectors.{key16, plain16, cipher16}
 use Rattle.cipher.specs.declared.size.KeySize.{KeySize}
@@ -19,32 +21,12 @@ use Rattle.cipher.specs.declared.size.SizeFound.the-variants.{Found}
 use Rattle.pad.specs.Padding.{paddedForSealing, paddedForTag, kindOf}
 use Rattle.archive.specs.Archive.{openedText, openAnswer}
 
--- a round's identity codings, with the mask m j of the carry into half byte j of each sum
-abbrev pub identity : (ℕ → ℕ) → RoundCodings
-identity m = record { before = λ w j v. v; after = λ w j v. v; middle = λ i j v. v; maskIn = λ i j. m j; maskOut = λ i j. m (suc j) }
-
-abbrev pub none : ℕ → ℕ
-none j = 0
-
--- the mask at j = 1 set
-abbrev pub second : ℕ → ℕ
-second zero = 0
-second (suc zero) = 1
-second (suc (suc j)) = 0
-
 -- key half bytes 0; and 3 and 5 at j = 0
 abbrev pub noKey : List ℕ
 noKey = replicate 6 0
 
 abbrev pub threeFive : List ℕ
 threeFive = 3 ∷ 5 ∷ replicate 4 0
-
--- the index of (c, p, q), and of (p, q)
-abbrev pub triple : ℕ → ℕ → ℕ → ℕ
-triple c p q = 256 * c + 16 * p + q
-
-abbrev pub pair : ℕ → ℕ → ℕ
-pair p q = 16 * p + q
 
 -- opening refuses every sealed text whose opened text ends so by 11
 abbrev pub Refused11 : List ℕ → Type 0
@@ -54,13 +36,17 @@ Refused11 end =
 
 pub record Marked : Type 0 where
   pub lea : encipher Bytes16 key16 plain16 ≡ cipher16
-  pub add : addTable (identity none) noKey 0 0 (triple 0 9 8) ≡ 17
-  pub add-mask : addTable (identity second) noKey 0 0 (triple 0 9 8) ≡ 1
-  pub add-top : addTable (identity none) noKey 0 7 (triple 0 9 8) ≡ 1
-  pub add-most : addTable (identity none) noKey 0 1 (triple 1 15 15) ≡ 31
-  pub add-keyed : addTable (identity none) threeFive 0 0 (triple 0 9 8) ≡ 23
-  pub turn-0 : turnTable (identity none) 0 0 (pair 9 8) ≡ 3
-  pub turn-1 : turnTable (identity none) 1 0 (pair 9 8) ≡ 12
+  pub add : addTable (identityRound none) noKey 0 0 (triple 0 9 8) ≡ 17
+  pub add-mask : addTable (identityRound (only 1)) noKey 0 0 (triple 0 9 8) ≡ 1
+  -- at j = 7 (02, 2026-06): by the mask at j = 0 of the same word, not the next one's, which the carry into j = 0 does not have
+  pub add-top : addTable (identityRound none) noKey 0 7 (triple 0 9 8) ≡ 17
+  pub add-top-mask : addTable (identityRound (only 0)) noKey 0 7 (triple 0 9 8) ≡ 1
+  pub add-top-next : addTable (identityRound (only 8)) noKey 0 7 (triple 0 9 8) ≡ 17
+  pub add-first : addTable (identityRound (only 0)) noKey 0 0 (triple 0 9 8) ≡ 17
+  pub add-most : addTable (identityRound none) noKey 0 1 (triple 1 15 15) ≡ 31
+  pub add-keyed : addTable (identityRound none) threeFive 0 0 (triple 0 9 8) ≡ 23
+  pub turn-0 : turnTable (identityRound none) 0 0 (pair 9 8) ≡ 3
+  pub turn-1 : turnTable (identityRound none) 1 0 (pair 9 8) ≡ 12
   pub doubling : double (0x80 ∷ replicate 15 0x00) ≡ replicate 15 0x00 ++ (0x87 ∷ [])
   pub empty-sealing : paddedForSealing [] ≡ replicate 16 0x10
   pub empty-tag : (paddedForTag [] ≡ 0x80 ∷ replicate 15 0) × (kindOf 0 ≡ 1)

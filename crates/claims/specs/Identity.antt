@@ -1,10 +1,8 @@
 -- Three chains for each key size: the identity chain (document 01, "Table of examples", its first paragraph); one of which no coding is
--- the identity and every mask that may be set is set; and a reading chain (document 02, 2026-01) of that kind, whose set 0 is the second
+-- the identity and every mask is set; and a reading chain (document 02, 2026-01) of that kind, whose set 0 is the second
 -- chain's set r. All are valid (`PremisesMet`).
-use mathlib.Core.Bool.{cond}
 use mathlib.Core.List.{List}
 use Prim.Native.Nat.{ℕ, _+_, _*_, _%_}
-use lib.Dec.{eqb}
 use Rattle.cipher.specs.KeySize.{rounds}
 use Rattle.cipher.specs.ChainParts.{chainFrom}
 use Rattle.cipher.specs.declared.size.KeySize.{KeySize}
@@ -21,11 +19,10 @@ shift k v = (v + k + 1) % 16
 abbrev pub shiftAt : ℕ → ℕ → ℕ → ℕ → ℕ
 shiftAt c l w j = (c * l + w) % 4 + j
 
--- every coding shifts, by its place, and all masks are set but those that must be 0
+-- every coding shifts, by its place, and all masks are set
 unfoldable pub shiftingChain : ℕ → KeySize → List ℕ
 shiftingChain c z =
-    chainFrom (rounds z) (λ w j. shift (shiftAt c 0 w j)) (λ l w j. shift (shiftAt c l w j)) (λ l i j. shift (shiftAt c l i j))
-    (λ l k. cond (eqb (k % 8) 0) 0 1)
+    chainFrom (rounds z) (λ w j. shift (shiftAt c 0 w j)) (λ l w j. shift (shiftAt c l w j)) (λ l i j. shift (shiftAt c l i j)) (λ l k. 1)
 
 -- word 3 of a set shifts as far as word 0 of the set before it; and in the reading chain word 0 as far as word 3
 abbrev pub shiftedChain : KeySize → List ℕ

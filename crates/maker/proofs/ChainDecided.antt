@@ -2,11 +2,11 @@
 -- bytes than there are, they need more whatever comes behind.
 use mathlib.Core.Path.{_≡_, refl, sym, ap, ap₂, _∙_}
 use mathlib.Core.Bool.{Bool, true, false, cond}
-use mathlib.Core.List.{List, [], _∷_, _++_}
-use Prim.Native.Nat.{ℕ, _+_, _-_, _*_, _%_, _≤_, _<_}
+use mathlib.Core.List.{List, _++_}
+use Prim.Native.Nat.{ℕ, _+_, _-_, _*_, _≤_, _<_}
 use native.Mathlib.Decide.{decLt}
 use native.Mathlib.Omega.{arith}
-use lib.ListN.{length, getD, take, drop, take-append-drop}
+use lib.ListN.{length, take, drop, take-append-drop, List·getD-append}
 use lib.Seq.{length-take-le}
 use Rattle.lists.specs.Tabulation.{tab, chunks}
 use Rattle.lists.proofs.TabulationLaws.{tab-ext}
@@ -14,7 +14,7 @@ use Rattle.lists.proofs.ChunkLaws.{chunks-ext}
 use Rattle.coding_maker.specs.Draw.{codingFrom, codingDraws}
 use Rattle.maker.specs.Plan.{Plan, TwoWords, fixedCoding, givenCoding, undrawn, source}
 use Rattle.coding_maker.specs.Parts.{begins, left}
-use Rattle.maker.specs.MadeChain.{setUse, freeCoding, setCoding, fixedMask, maskUse, maskFrom, middleUse, middlesDraw, middlesFrom, masksDraw, masksFrom, roundDraws}
+use Rattle.maker.specs.MadeChain.{setUse, freeCoding, setCoding, middleUse, middlesDraw, middlesFrom, maskFrom, masksFrom, roundDraws}
 use Rattle.maker.specs.MadeChain.{roundFrom, setsDraw, setsFrom, roundUse, roundsDraw, roundsFrom, chainDraws, chainMade}
 use Rattle.coding_maker.proofs.DrawCounts.{Steady, Decided, after, steady-after, decided-first, decided-second, steady-coding, coding-same, steady-begins, decided-part}
 use Rattle.maker.proofs.Places.{source-le, free-source}
@@ -78,42 +78,23 @@ middles-same =
     decided-chunks (begins middleUse 24) 24 (λ s k. codingFrom (left middleUse k s)) (λ k h.
     decided-part middleUse (λ k. steady-coding) 24 k h codingFrom coding-same)
 
-steady-mask : (k : ℕ) → Steady (maskUse k)
-unfolding maskUse
-steady-mask k = go (fixedMask k)
-  where
-    go : (b : Bool) → Steady (λ s. cond b 0 1)
-    go b = record { same = λ s t h. refl; more = λ s t h. h }
+steady-masks : Steady (λ s. 24)
+steady-masks = record { same = λ s t h. refl; more = λ s t h. h }
 
-mask-same : (k : ℕ) → Decided (maskUse k) (maskFrom k)
-unfolding maskUse maskFrom
-mask-same k = go (fixedMask k)
-  where
-    go : (b : Bool) → Decided (λ s. cond b 0 1) (λ s. cond b 0 (getD s 0 0 % 2))
-    go true s t h = refl
-    go false [] t h = absurd (omega arith)
-    go false (b ∷ s) t h = refl
-
-steady-masks : Steady masksDraw
-unfolding masksDraw
-steady-masks = steady-begins maskUse steady-mask 24
-
-masks-same : Decided masksDraw masksFrom
-unfolding masksDraw masksFrom
-masks-same =
-    decided-tab (begins maskUse 24) 24 (λ s k. maskFrom k (left maskUse k s)) (λ k h.
-    decided-part maskUse steady-mask 24 k h (maskFrom k) (mask-same k))
+masks-same : Decided (λ s. 24) masksFrom
+unfolding masksFrom maskFrom
+masks-same = decided-tab (λ s. 24) 24 (λ s k. maskFrom k s) (λ k h s t b. rw (List·getD-append s t 0 k (omega arith)))
 
 steady-round : Steady roundDraws
 unfolding roundDraws
-steady-round = steady-after middlesDraw masksDraw steady-middles steady-masks
+steady-round = steady-after middlesDraw (λ s. 24) steady-middles steady-masks
 
 round-same : Decided roundDraws roundFrom
 unfolding roundDraws roundFrom
 round-same =
-    decided-append (after middlesDraw masksDraw) middlesFrom (λ s. masksFrom (drop (middlesDraw s) s))
-    (decided-first middlesDraw masksDraw steady-middles steady-masks middlesFrom middles-same)
-    (decided-second middlesDraw masksDraw steady-middles steady-masks masksFrom masks-same)
+    decided-append (after middlesDraw (λ s. 24)) middlesFrom (λ s. masksFrom (drop (middlesDraw s) s))
+    (decided-first middlesDraw (λ s. 24) steady-middles steady-masks middlesFrom middles-same)
+    (decided-second middlesDraw (λ s. 24) steady-middles steady-masks masksFrom masks-same)
 
 -- ---- the chain
 

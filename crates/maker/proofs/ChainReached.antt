@@ -1,23 +1,22 @@
--- Every valid chain comes out of some bytes: of 15 for each coding that is neither fixed nor given and one for each mask but those at
--- j = 0, of which none is skipped.
+-- Every valid chain comes out of some bytes: of 15 for each coding that is neither fixed nor given and one for each mask, of which none
+-- is skipped.
 use mathlib.Core.Path.{_≡_, refl, sym, ap, _∙_}
 use mathlib.Core.Bool.{Bool, true, false, cond}
-use mathlib.Core.List.{List, [], _∷_, _++_, append-assoc}
+use mathlib.Core.List.{List, [], _++_, append-assoc}
 use Prim.Native.Nat.{ℕ, zero, suc, _+_, _-_, _*_, _/_, _%_, _≤_, _<_}
-use native.Mathlib.Nat.{mod-eq-of-lt, mul-suc, mul-zero}
+use native.Mathlib.Nat.{mul-suc, mul-zero}
 use native.Mathlib.Decide.{ℕ-discrete}
 use native.Mathlib.Omega.{arith}
 use lib.Dec.{lit<}
-use lib.ListN.{length, getD, take, drop, length-append, length-drop, take-append-drop}
+use lib.ListN.{length, getD, take, drop, length-append, length-drop, take-append-drop, List·getD-append}
 use lib.Seq.{getD-drop, getD-take, drop-at, drop-drop, take-all, take-add, length-take-le, ext-getD}
 use Rattle.lists.specs.Tabulation.{chunks}
 use Rattle.lists.specs.Blocks.{Bytes}
 use Rattle.lists.specs.Every.{every}
 use Rattle.lists.proofs.EveryLaws.{and-true}
-use Rattle.lists.proofs.TabulationLaws.{tab-ext}
+use Rattle.lists.proofs.TabulationLaws.{tab-is}
 use Rattle.lists.proofs.ChunkLaws.{chunks-ext}
-use Rattle.lists.proofs.PartLaws.{tab-part}
-use Rattle.lists.proofs.BlockLaws.{bytes-append}
+use Rattle.lists.proofs.BlockLaws.{bytes-of, bytes-append}
 use Rattle.cipher.specs.KeySize.{rounds}
 use Rattle.cipher.specs.Coding.{Permutation, codingAt}
 use Rattle.cipher.specs.Chain.{roundBytes, ChainBy, arePermutations, codingRuleHolds}
@@ -27,12 +26,12 @@ use Rattle.coding_maker.specs.Laws.{IsCoding}
 use Rattle.coding_maker.specs.Draw.{codingFrom, codingDraws}
 use Rattle.maker.specs.Plan.{Plan, TwoWords, fixedCoding, source, givenCoding, undrawn}
 use Rattle.coding_maker.specs.Parts.{begins, left}
-use Rattle.maker.specs.MadeChain.{setUse, freeCoding, setCoding, fixedMask, maskUse, maskFrom, middleUse, middlesDraw, middlesFrom, masksDraw, masksFrom, roundDraws}
+use Rattle.maker.specs.MadeChain.{setUse, freeCoding, setCoding, middleUse, middlesDraw, middlesFrom, maskFrom, masksFrom, roundDraws}
 use Rattle.maker.specs.MadeChain.{roundFrom, setsDraw, setsFrom, roundUse, roundsDraw, roundsFrom, chainDraws, chainMade}
 use Rattle.coding_maker.proofs.DrawCounts.{after}
 use Rattle.coding_maker.proofs.CodingDrawn.{sends, bytesFor, length-bytes, coding-bytes, coding-reached, draws-reached}
 use Rattle.maker.proofs.ChainValid.{codingOf}
-use Rattle.maker.proofs.Places.{source-free, source-fixed, fixed-known, free-source, source-le, mask-fixed, mask-free}
+use Rattle.maker.proofs.Places.{source-free, source-fixed, fixed-known, free-source, source-le}
 
 -- u draws p and no more, whatever stands behind
 abbrev Draws : (List ℕ → ℕ) → List ℕ → Type 0
@@ -129,21 +128,21 @@ module _ (p : Plan) (two : TwoWords (p .from) (p .to)) (n : ℕ) (l : List ℕ) 
 
 -- ---- a round
 
-unfoldable pub maskBytes : List ℕ → ℕ → List ℕ
-maskBytes l k = cond (fixedMask k) [] (getD l (384 + k) 0 ∷ [])
+-- the masks themselves
+unfoldable pub maskBytes : List ℕ → List ℕ
+maskBytes l = take 24 (drop 384 l)
 
 unfoldable pub middleBytes : List ℕ → ℕ → List ℕ
 middleBytes l k = bytesFor (codingOf l k)
 
 unfoldable pub roundBytesFor : List ℕ → List ℕ
-roundBytesFor l = chunks 24 (middleBytes l) ++ chunks 24 (maskBytes l)
+roundBytesFor l = chunks 24 (middleBytes l) ++ maskBytes l
 
 -- the bytes of a round, 24 codings and 24 masks
 record Round (l : List ℕ) : Type 0 where
   pub size : 408 ≤ length l
   pub codings : (k : ℕ) → k < 24 → IsCoding (codingOf l k)
   pub bits : (k : ℕ) → k < 24 → getD l (384 + k) 0 < 2
-  pub firsts : (k : ℕ) → k < 24 → k % 8 ≡ 0 → getD l (384 + k) 0 ≡ 0
 
 module _ (l : List ℕ) (h : Round l) where
   middle-draws : (k : ℕ) → k < 24 → Draws (middleUse k) (middleBytes l k)
@@ -162,43 +161,31 @@ module _ (l : List ℕ) (h : Round l) where
       ap codingFrom (f .1) ∙ coding-reached (codingOf l k) (h .codings k b) (f .0))
       ∙ cut-chunks 16 24 l
 
-  mask-draws : (k : ℕ) → k < 24 → Draws (maskUse k) (maskBytes l k)
-  unfolding maskUse maskBytes
-  mask-draws k b t = go (fixedMask k)
-    where
-      go : (b : Bool) → cond b 0 1 ≡ length (cond b [] (getD l (384 + k) 0 ∷ []))
-      go true = refl
-      go false = refl
+  length-mask-bytes : length (maskBytes l) ≡ 24
+  unfolding maskBytes
+  length-mask-bytes = length-take-le 24 (drop 384 l) (rw (length-drop 384 l) (omega (arith, h .size)))
 
-  mask-from : (k : ℕ) → k < 24 → (t : List ℕ) → maskFrom k (maskBytes l k ++ t) ≡ getD l (384 + k) 0
-  unfolding maskFrom maskBytes
-  mask-from k b t = go (ℕ-discrete (k % 8) 0)
-    where
-      go : Dec (k % 8 ≡ 0) → cond (fixedMask k) 0 (getD (cond (fixedMask k) [] (getD l (384 + k) 0 ∷ []) ++ t) 0 0 % 2) ≡ getD l (384 + k) 0
-      go (yes e) = rw (mask-fixed k e) (sym (h .firsts k b e))
-      go (no e) = rw (mask-free k e) (mod-eq-of-lt (h .bits k b))
+  mask-byte : (k : ℕ) → k < 24 → getD (maskBytes l) k 0 ≡ getD l (384 + k) 0
+  unfolding maskBytes
+  mask-byte k b = getD-take 24 (drop 384 l) k 0 b ∙ getD-drop 384 l k 0
 
-  masks-draw : Draws masksDraw (chunks 24 (maskBytes l))
-  unfolding masksDraw
-  masks-draw = draws-begins maskUse (maskBytes l) 24 mask-draws
-
-  masks-reached : (t : List ℕ) → masksFrom (chunks 24 (maskBytes l) ++ t) ≡ take 24 (drop 384 l)
-  unfolding masksFrom
+  masks-reached : (t : List ℕ) → masksFrom (maskBytes l ++ t) ≡ maskBytes l
+  unfolding masksFrom maskFrom
   masks-reached t =
-      tab-ext 24 (λ k. maskFrom k (left maskUse k (chunks 24 (maskBytes l) ++ t))) (λ k. getD l (384 + k) 0) (λ k b.
-      let f = found maskUse (maskBytes l) 24 mask-draws k b t in
-      ap (maskFrom k) (f .1) ∙ mask-from k b (f .0))
-      ∙ tab-part l 384 24 (h .size)
+      tab-is 24 (λ k. maskFrom k (maskBytes l ++ t)) (maskBytes l) length-mask-bytes (λ k b.
+      let e = mask-byte k b in
+      let m = h .bits k b in
+      rw (List·getD-append (maskBytes l) t 0 k (rw length-mask-bytes b)) (omega arith))
 
   round-draws : Draws roundDraws (roundBytesFor l)
   unfolding roundDraws roundBytesFor
-  round-draws = draws-after middlesDraw (chunks 24 (middleBytes l)) middles-draw masksDraw (chunks 24 (maskBytes l)) masks-draw
+  round-draws = draws-after middlesDraw (chunks 24 (middleBytes l)) middles-draw (λ s. 24) (maskBytes l) (λ t. sym length-mask-bytes)
 
   round-reached : (t : List ℕ) → roundFrom (roundBytesFor l ++ t) ≡ take 408 l
-  unfolding roundFrom roundBytesFor
+  unfolding roundFrom roundBytesFor maskBytes
   round-reached t =
       let p = chunks 24 (middleBytes l) in
-      let q = chunks 24 (maskBytes l) in
+      let q = maskBytes l in
       (λ i. (ap middlesFrom (append-assoc p q t) ∙ middles-reached (q ++ t)) i ++ (ap masksFrom (rest-is middlesDraw p middles-draw q t) ∙ masks-reached t) i)
       ∙ sym (take-add 384 24 l)
 
@@ -262,14 +249,7 @@ module _ (p : Plan) (z : KeySize) (ch : List ℕ) (planned : Planned p z ch) whe
         let a : 8 * (k / 8) + k % 8 ≡ k = omega arith in
         let q = h .codings .middles l (k / 8) (k % 8) hl (omega arith) (omega arith) in
         coding-of (roundBytes r ch l) k (rw (length-drop (512 * (r + 2) + 408 * l) ch) (omega (arith, h .size))) (rw a at q);
-    bits = λ k b.
-        let a : 8 * (k / 8) + k % 8 ≡ k = omega arith in
-        let q = h .masks .bits l (k / 8) (k % 8) hl (omega arith) (omega arith) in
-        rw a at q;
-    firsts = λ k b e.
-        let a : 8 * (k / 8) ≡ k = omega arith in
-        let b = h .masks .firsts l (k / 8) hl (omega arith) in
-        rw a at b;
+    bits = λ k b. h .masks l k hl b;
   }
 
   abbrev roundParts : ℕ → List ℕ
@@ -327,21 +307,17 @@ set-bytes p l k h = go (undrawn p k)
     go true = λ i. lit< tt
     go false = coding-bytes (codingOf l k) h
 
-mask-bytes : (l : List ℕ) (k : ℕ) → getD l (384 + k) 0 < 2 → Bytes (maskBytes l k)
-unfolding maskBytes
-mask-bytes l k h = go (fixedMask k)
-  where
-    go : (b : Bool) → Bytes (cond b [] (getD l (384 + k) 0 ∷ []))
-    go true i = lit< tt
-    go false zero = omega arith
-    go false (suc i) = lit< tt
+mask-bytes : (l : List ℕ) → Round l → Bytes (maskBytes l)
+mask-bytes l h = bytes-of (maskBytes l) (λ k b.
+    let m : k < 24 = rw (length-mask-bytes l h) at b in
+    let e = mask-byte l h k m in
+    omega (arith, h .bits k m))
 
 round-bytes : (l : List ℕ) → Round l → Bytes (roundBytesFor l)
 unfolding roundBytesFor middleBytes
 round-bytes l h =
-    bytes-append (chunks 24 (middleBytes l)) (chunks 24 (maskBytes l))
-    (bytes-chunks 24 (middleBytes l) (λ k b. coding-bytes (codingOf l k) (h .codings k b)))
-    (bytes-chunks 24 (maskBytes l) (λ k b. mask-bytes l k (h .bits k b)))
+    bytes-append (chunks 24 (middleBytes l)) (maskBytes l)
+    (bytes-chunks 24 (middleBytes l) (λ k b. coding-bytes (codingOf l k) (h .codings k b))) (mask-bytes l h)
 
 pub chain-bytes : (p : Plan) (z : KeySize) (ch : List ℕ) → Planned p z ch → Bytes (chainBytes p (rounds z) ch)
 unfolding chainBytes

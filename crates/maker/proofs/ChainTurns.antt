@@ -2,10 +2,9 @@
 use mathlib.Core.Path.{_≡_, refl, sym, ap, _∙_}
 use mathlib.Core.Bool.{Bool, true, false, cond}
 use mathlib.Core.List.{List, _++_, append-assoc}
-use Prim.Native.Nat.{ℕ, zero, suc, _+_, _-_, _*_, _/_, _%_, _≤_, _<_}
+use Prim.Native.Nat.{ℕ, _+_, _-_, _*_, _%_, _≤_, _<_}
 use native.Mathlib.Nat.{le-of-eq, add-sub-cancel-left}
 use native.Mathlib.Numerals.{add-one}
-use native.Mathlib.Decide.{ℕ-discrete}
 use native.Mathlib.Omega.{arith}
 use lib.ListN.{length, getD, take, drop, length-drop}
 use lib.Seq.{drop-drop, getD-drop, drop-append-le, take-append-le}
@@ -15,11 +14,11 @@ use Rattle.lists.proofs.PartLaws.{put-more, grown-whole}
 use Rattle.coding_maker.specs.Draw.{codingFrom, codingDraws}
 use Rattle.maker.specs.Plan.{Plan, TwoWords, fixedCoding, source, givenCoding, undrawn}
 use Rattle.coding_maker.specs.Parts.{begins, left}
-use Rattle.maker.specs.MadeChain.{setUse, freeCoding, setCoding, fixedMask, maskUse, maskFrom, middleUse, middlesDraw, middlesFrom, masksDraw, masksFrom, roundDraws}
+use Rattle.maker.specs.MadeChain.{setUse, freeCoding, setCoding, middleUse, middlesDraw, middlesFrom, maskFrom, masksFrom, roundDraws}
 use Rattle.maker.specs.MadeChain.{roundFrom, setsDraw, setsFrom, roundsDraw, roundsFrom, chainDraws, chainMade}
 use Rattle.coding_maker.proofs.DrawCounts.{Within, within-coding, within-begins}
 use Rattle.coding_maker.proofs.DrawTurns.{near}
-use Rattle.maker.proofs.Places.{source-free, source-fixed, source-lt, free-source, mask-fixed, mask-free}
+use Rattle.maker.proofs.Places.{source-free, source-fixed, source-lt, free-source}
 use Rattle.maker.proofs.ChainValid.{codingOf, length-setCoding, set-same}
 
 -- ---- parts in order
@@ -57,39 +56,13 @@ within-set p k s = go (undrawn p k)
     go true = omega arith
     go false = within-coding s
 
-pub within-mask : (k : ℕ) → Within 1 (maskUse k)
-unfolding maskUse
-within-mask k s = go (fixedMask k)
-  where
-    go : (b : Bool) → cond b 0 1 ≤ length s + 1
-    go true = omega arith
-    go false = omega arith
-
 pub within-middles : Within 360 middlesDraw
 unfolding middlesDraw
 within-middles = within-begins 15 middleUse (λ k. within-coding) 24
 
--- of the first n masks of a round every eighth draws nothing, from the first on
-masks-so-far : (n : ℕ) (s : List ℕ) → begins maskUse n s ≡ n - (n + 7) / 8
-unfolding begins maskUse
-masks-so-far zero s = refl
-masks-so-far (suc n) s = let ih = masks-so-far n s in go (ℕ-discrete (n % 8) 0) ih
-  where
-    go : Dec (n % 8 ≡ 0) → begins maskUse n s ≡ n - (n + 7) / 8 → begins maskUse n s + cond (fixedMask n) 0 1 ≡ suc n - (suc n + 7) / 8
-    go (yes e) ih = rw (mask-fixed n e) (omega arith)
-    go (no e) ih = rw (mask-free n e) (omega arith)
-
--- so the masks of a round draw 21 bytes
-masks-draw-21 : (s : List ℕ) → masksDraw s ≡ 21
-unfolding masksDraw
-masks-draw-21 s = masks-so-far 24 s
-
-pub round-draws-is : (s : List ℕ) → roundDraws s ≡ middlesDraw s + 21
+pub within-round : Within 384 roundDraws
 unfolding roundDraws
-round-draws-is s = ap (λ (n : ℕ). middlesDraw s + n) (masks-draw-21 (drop (middlesDraw s) s))
-
-pub within-round : Within 381 roundDraws
-within-round s = let a = within-middles s in let b = round-draws-is s in omega arith
+within-round s = let a = within-middles s in omega arith
 
 -- ---- parts that draw nothing, and parts that do
 
@@ -114,26 +87,10 @@ module _ (p : Plan) (k : ℕ) (s : List ℕ) where
   unfolding freeCoding
   free-drawn e = rw e
 
-pub mask-use-fixed : (k : ℕ) (s : List ℕ) → fixedMask k ≡ true → maskUse k s ≡ 0
-unfolding maskUse
-mask-use-fixed k s e = rw e
-
-pub mask-use-free : (k : ℕ) (s : List ℕ) → fixedMask k ≡ false → maskUse k s ≡ 1
-unfolding maskUse
-mask-use-free k s e = rw e
-
-pub mask-from-fixed : (k : ℕ) (s : List ℕ) → fixedMask k ≡ true → maskFrom k s ≡ 0
+-- a mask from its byte
+pub mask-at : (s : List ℕ) (from k b : ℕ) → b ≡ getD s (from + k) 0 → b % 2 ≡ maskFrom k (drop from s)
 unfolding maskFrom
-mask-from-fixed k s e = rw e
-
-pub mask-from-free : (k : ℕ) (s : List ℕ) → fixedMask k ≡ false → maskFrom k s ≡ getD s 0 0 % 2
-unfolding maskFrom
-mask-from-free k s e = rw e
-
-pub first-byte : (s : List ℕ) (from b : ℕ) → b ≡ getD s from 0 → b % 2 ≡ getD (drop from s) 0 0 % 2
-first-byte s from b e =
-    let z : from ≡ from + 0 = omega arith in
-    ap (λ (n : ℕ). n % 2) (e ∙ ap (λ (n : ℕ). getD s n 0) z ∙ sym (getD-drop from s 0 0))
+mask-at s from k b e = ap (λ (n : ℕ). n % 2) (e ∙ sym (getD-drop from s k 0))
 
 -- ---- codings written one behind another
 
@@ -202,12 +159,9 @@ put-lent out x a =
 -- ---- the whole
 
 -- the masks of a round are drawn behind its middle codings
-pub round-draws-in : (s : List ℕ) (from m n : ℕ) → m ≡ from + middlesDraw (drop from s) → n ≡ m + masksDraw (drop m s) → n ≡ from + roundDraws (drop from s)
+pub round-draws-in : (s : List ℕ) (from m : ℕ) → m ≡ from + middlesDraw (drop from s) → m + 24 ≡ from + roundDraws (drop from s)
 unfolding roundDraws
-round-draws-in s from m n e q =
-    let d = drop-drop (middlesDraw (drop from s)) from s ∙ ap (λ (k : ℕ). drop k s) (sym e) in
-    let w = ap masksDraw d in
-    omega arith
+round-draws-in s from m e = omega arith
 
 pub round-from-in : (s x y : List ℕ) (from m : ℕ) → m ≡ from + middlesDraw (drop from s) → x ≡ middlesFrom (drop from s) → y ≡ masksFrom (drop m s)
     → x ++ y ≡ roundFrom (drop from s)

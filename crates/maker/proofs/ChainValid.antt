@@ -2,10 +2,8 @@
 use mathlib.Core.Path.{_≡_, refl, sym, ap, _∙_}
 use mathlib.Core.Bool.{Bool, true, false, cond}
 use mathlib.Core.List.{List}
-use Prim.Native.Nat.{ℕ, suc, _+_, _-_, _*_, _/_, _%_, _≤_, _<_}
-use native.Mathlib.Nat.{mod-lt}
+use Prim.Native.Nat.{ℕ, suc, _+_, _-_, _*_, _/_, _≤_, _<_}
 use native.Mathlib.Omega.{arith}
-use lib.Dec.{lit<}
 use lib.ListN.{length, getD, take, drop, length-append, length-drop, List·getD-append}
 use lib.Seq.{getD-drop, length-take-le}
 use Rattle.lists.proofs.TabulationLaws.{length-tab, getD-tab}
@@ -19,18 +17,15 @@ use Rattle.coding_maker.specs.Laws.{IsCoding}
 use Rattle.coding_maker.specs.Draw.{codingFrom}
 use Rattle.maker.specs.Plan.{Plan, TwoWords, source, givenCoding}
 use Rattle.coding_maker.specs.Parts.{left}
-use Rattle.maker.specs.MadeChain.{setUse, freeCoding, setCoding, fixedMask, maskUse, maskFrom, middleUse, middlesDraw, middlesFrom, masksFrom, roundFrom, setsDraw, setsFrom}
+use Rattle.maker.specs.MadeChain.{setUse, freeCoding, setCoding, middleUse, middlesDraw, middlesFrom, maskFrom, masksFrom, roundFrom, setsDraw, setsFrom}
 use Rattle.maker.specs.MadeChain.{roundUse, roundsFrom, chainMade}
 use Rattle.coding_maker.proofs.CodingDrawn.{sends, coding-drawn}
-use Rattle.maker.proofs.Places.{given-known, source-word, mask-fixed}
+use Rattle.maker.proofs.Places.{given-known, source-word}
 
 -- ---- a round
 
 abbrev middleCoding : List ℕ → ℕ → List ℕ
 middleCoding s k = codingFrom (left middleUse k s)
-
-abbrev maskOf : List ℕ → ℕ → ℕ
-maskOf s k = maskFrom k (left maskUse k s)
 
 pub length-middles : (s : List ℕ) → length (middlesFrom s) ≡ 384
 unfolding middlesFrom
@@ -38,7 +33,7 @@ length-middles s = length-chunks (middleCoding s) 16 (λ k. coding-drawn (left m
 
 pub length-masks : (s : List ℕ) → length (masksFrom s) ≡ 24
 unfolding masksFrom
-length-masks s = length-tab 24 (maskOf s)
+length-masks s = length-tab 24 (λ k. maskFrom k s)
 
 pub length-round : (s : List ℕ) → length (roundFrom s) ≡ 408
 unfolding roundFrom
@@ -52,23 +47,15 @@ round-coding s k v hk hv =
     ∙ ap (λ (i : ℕ). getD (middlesFrom s) i 0) e
     ∙ getD-chunks (middleCoding s) 16 (λ k. coding-drawn (left middleUse k s) .size) 24 k v hk hv
 
-round-mask : (s : List ℕ) (k : ℕ) → k < 24 → getD (roundFrom s) (384 + k) 0 ≡ maskOf (drop (middlesDraw s) s) k
+round-mask : (s : List ℕ) (k : ℕ) → k < 24 → getD (roundFrom s) (384 + k) 0 ≡ maskFrom k (drop (middlesDraw s) s)
 unfolding roundFrom masksFrom
 round-mask s k hk =
     getD-second (middlesFrom s) (masksFrom (drop (middlesDraw s) s)) 384 k (384 + k) (length-middles s) refl
-    ∙ getD-tab 24 (maskOf (drop (middlesDraw s) s)) k hk
+    ∙ getD-tab 24 (λ k. maskFrom k (drop (middlesDraw s) s)) k hk
 
 mask-lt : (k : ℕ) (s : List ℕ) → maskFrom k s < 2
 unfolding maskFrom
-mask-lt k s = go (fixedMask k)
-  where
-    go : (b : Bool) → cond b 0 (getD s 0 0 % 2) < 2
-    go true = lit< tt
-    go false = mod-lt (getD s 0 0) (lit< tt)
-
-mask-zero : (k : ℕ) (s : List ℕ) → k % 8 ≡ 0 → maskFrom k s ≡ 0
-unfolding maskFrom
-mask-zero k s h = rw (mask-fixed k h)
+mask-lt k s = omega arith
 
 -- ---- the sets
 
@@ -162,7 +149,7 @@ module _ (p : Plan) (r : ℕ) (s : List ℕ) where
       behind l (16 * (8 * i + j) + v) hl (omega arith) ∙ round-coding (left roundUse l rest) (8 * i + j) v (omega arith) hv
 
   mask-at : (l k : ℕ) → l < r → k < 24
-      → maskAt r ch l k ≡ maskOf (drop (middlesDraw (left roundUse l rest)) (left roundUse l rest)) k
+      → maskAt r ch l k ≡ maskFrom k (drop (middlesDraw (left roundUse l rest)) (left roundUse l rest))
   mask-at l k hl hk = behind l (384 + k) hl (omega arith) ∙ round-mask (left roundUse l rest) k hk
 
 pub chain-valid : (p : Plan) → Sound p → (z : KeySize) (s : List ℕ) → ChainBy (p .from) (p .to) z (chainMade p (rounds z) s)
@@ -185,12 +172,5 @@ chain-valid p h z s =
           set-at p r s (suc l) (p .to) j v hl (w .1) hj hv
           ∙ ap (λ (x : List ℕ). sends x v) (set-same p s (32 * suc (suc l) + (8 * p .to + j)) (32 * suc l + (8 * p .from + j)) (source-word p w l j hj))
           ∙ sym (set-at p r s l (p .from) j v (omega arith) (w .0) hj hv);
-      masks = record {
-        bits = λ l i j hl hi hj.
-            rw (mask-at p r s l (8 * i + j) hl (omega arith))
-            (mask-lt (8 * i + j) (left maskUse (8 * i + j) (drop (middlesDraw (left roundUse l (rest p r s))) (left roundUse l (rest p r s)))));
-        firsts = λ l i hl hi.
-            mask-at p r s l (8 * i) hl (omega arith)
-            ∙ mask-zero (8 * i) (left maskUse (8 * i) (drop (middlesDraw (left roundUse l (rest p r s))) (left roundUse l (rest p r s)))) (omega arith);
-      };
+      masks = λ l k hl hk. rw (mask-at p r s l k hl hk) (mask-lt k (drop (middlesDraw (left roundUse l (rest p r s))) (left roundUse l (rest p r s))));
     }

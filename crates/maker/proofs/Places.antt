@@ -1,4 +1,4 @@
--- Which codings of a chain draw nothing, and by which coding the word rule fixes one; which masks draw nothing.
+-- Which codings of a chain draw nothing, and by which coding the word rule fixes one.
 use mathlib.Core.Path.{_≡_, refl, _∙_}
 use mathlib.Core.Bool.{Bool, true, false, _&&_}
 use Prim.Native.Nat.{ℕ, suc, _+_, _-_, _*_, _/_, _%_, _≤_, _<_}
@@ -8,7 +8,6 @@ use lib.Dec.{leb, ltb, eqb}
 use lib.ListN.{length}
 use Rattle.lists.proofs.EveryLaws.{and-true}
 use Rattle.maker.specs.Plan.{Plan, TwoWords, fixedCoding, source, givenCoding}
-use Rattle.maker.specs.MadeChain.{fixedMask}
 
 and-false : (b : Bool) → b && false ≡ false
 and-false true = refl
@@ -77,13 +76,3 @@ module _ (p : Plan) where
     source-word l j h =
         source-fixed (32 * suc (suc l) + (8 * p .to + j)) (coding-fixed (32 * suc (suc l) + (8 * p .to + j)) (omega arith) (omega (arith, w .1)))
         ∙ omega (arith, source-free (32 * suc l + (8 * p .from + j)) (coding-free (32 * suc l + (8 * p .from + j)) (λ f. w .2 (omega (arith, w .0)))))
-
--- ---- masks
-
-pub mask-fixed : (k : ℕ) → k % 8 ≡ 0 → fixedMask k ≡ true
-unfolding fixedMask
-mask-fixed k h = eq-eqb (k % 8) 0 h
-
-pub mask-free : (k : ℕ) → (k % 8 ≡ 0 → ⊥) → fixedMask k ≡ false
-unfolding fixedMask
-mask-free k h = ne-eqb (k % 8) 0 h

@@ -1,10 +1,9 @@
 -- The chain that is made from random bytes (document 02, 2026-03; chain, set, coding and mask are 01's terms). Its parts are drawn in the
 -- order in which they stand: the 32 codings of U, those of the sets 0 to r, then for each round 24 middle codings and 24 masks. Codings
--- that are fixed or given, and masks at j = 0, draw nothing.
-use mathlib.Core.Bool.{Bool, cond}
+-- that are fixed or given draw nothing; all masks are drawn (2026-06).
+use mathlib.Core.Bool.{cond}
 use mathlib.Core.List.{List, _++_}
 use Prim.Native.Nat.{ℕ, _+_, _-_, _*_, _%_}
-use lib.Dec.{eqb}
 use lib.ListN.{getD, take, drop}
 use Rattle.lists.specs.Tabulation.{tab, chunks}
 use Rattle.cipher.specs.Lengths.{codingLength}
@@ -28,18 +27,6 @@ setCoding p s k = freeCoding p (source p k) (left (setUse p) (source p k) s)
 
 -- ---- a round
 
--- the mask at place k of a round is fixed: that of the carry into half byte 0
-unfoldable pub fixedMask : ℕ → Bool
-fixedMask k = eqb (k % 8) 0
-
--- otherwise it draws a byte
-unfoldable pub maskUse : ℕ → List ℕ → ℕ
-maskUse k s = cond (fixedMask k) 0 1
-
--- and is the lowest bit of it
-unfoldable pub maskFrom : ℕ → List ℕ → ℕ
-maskFrom k s = cond (fixedMask k) 0 (getD s 0 0 % 2)
-
 -- 24 middle codings: how many bytes, and the codings
 abbrev pub middleUse : ℕ → List ℕ → ℕ
 middleUse k s = codingDraws s
@@ -50,16 +37,16 @@ middlesDraw s = begins middleUse 24 s
 unfoldable pub middlesFrom : List ℕ → List ℕ
 middlesFrom s = chunks 24 (λ k. codingFrom (left middleUse k s))
 
--- 24 masks: how many bytes, and the masks
-unfoldable pub masksDraw : List ℕ → ℕ
-masksDraw s = begins maskUse 24 s
+-- 24 masks: each draws a byte, and is the lowest bit of it; the one at place k, and all
+unfoldable pub maskFrom : ℕ → List ℕ → ℕ
+maskFrom k s = getD s k 0 % 2
 
 unfoldable pub masksFrom : List ℕ → List ℕ
-masksFrom s = tab 24 (λ k. maskFrom k (left maskUse k s))
+masksFrom s = tab 24 (λ k. maskFrom k s)
 
 -- the middle codings, and the masks from what they leave: how many bytes, and the round
 unfoldable pub roundDraws : List ℕ → ℕ
-roundDraws s = middlesDraw s + masksDraw (drop (middlesDraw s) s)
+roundDraws s = middlesDraw s + 24
 
 unfoldable pub roundFrom : List ℕ → List ℕ
 roundFrom s = middlesFrom s ++ masksFrom (drop (middlesDraw s) s)

@@ -52,12 +52,12 @@ fn middles_draw(table: &[u8], random: &[u8], start: usize) -> usize
     at
 }
 
-// Behind those of a round: a byte for each mask but the three at j = 0.
+// Behind those of a round: a byte for each mask.
 fn round_draws(table: &[u8], random: &[u8], start: usize) -> usize
     requires { ⌜ (now table ≡ numberTable) × (start ≤ length (now random) + 100000) ⌝ }
     ensures { λ r. ⌜ r ≡ start + M.roundDraws (drop start (now (random .entry))) ⌝ }
 {
-    middles_draw(table, random, start) + (lengths::MIDDLES - 3)
+    middles_draw(table, random, start) + lengths::MIDDLES
 }
 
 // Behind those of r rounds.

@@ -19,12 +19,6 @@ use cipher::block::put_block;
 use cipher::lengths;
 use coding_maker::draw::draw_coding;
 
-// A mask that was drawn, and the place of the first byte that is left.
-struct MaskDrawn {
-    mask: u8,
-    at: usize,
-}
-
 // Coding k of U and the sets where the word rule does not fix it, given in set or drawn, into out.
 fn free_coding(
     table: &[u8],
@@ -117,33 +111,14 @@ fn byte_at(random: &[u8], at: usize) -> u8
     0
 }
 
-// The mask at place k of a round: the lowest bit of a byte, or 0 at j = 0.
-fn draw_mask(random: &[u8], start: usize, k: usize) -> MaskDrawn
-    requires { ⌜ start ≤ length (now random) + 1000000 ⌝ }
-    ensures { λ r. ⌜ (r .mask ≡ M.maskFrom k (drop start (now (random .entry)))) × (r .at ≡ start + M.maskUse k (drop start (now (random .entry)))) ⌝ }
-{
-    if k % lengths::HALVES == 0 {
-        return MaskDrawn { mask: 0, at: start };
-    }
-    let mask = byte_at(random, start) % 2;
-    MaskDrawn {
-        mask,
-        at: start + 1,
-    }
-}
-
-// The masks of a round.
-fn draw_masks(random: &[u8], start: usize, out: &mut [u8]) -> usize
+// The masks of a round: the lowest bits of the bytes from a place on.
+fn draw_masks(random: &[u8], start: usize, out: &mut [u8])
     requires { ⌜ (start ≤ length (now random) + 200000) × (length (now out) ≡ 24) ⌝ }
-    ensures { λ r. ⌜ (r ≡ start + M.masksDraw (drop start (now (random .entry)))) × (now (out .exit) ≡ M.masksFrom (drop start (now (random .entry)))) ⌝ }
+    ensures { λ _. ⌜ now (out .exit) ≡ M.masksFrom (drop start (now (random .entry))) ⌝ }
 {
-    let mut at = start;
     for k in 0..lengths::MIDDLES {
-        let d = draw_mask(random, at, k);
-        out[k] = d.mask;
-        at = d.at;
+        out[k] = byte_at(random, start + k) % 2;
     }
-    at
 }
 
 // A round: its middle codings, then its masks.
@@ -156,7 +131,8 @@ fn draw_round(table: &[u8], random: &[u8], start: usize, out: &mut [u8]) -> usiz
         random,
         masks,
         &mut out[lengths::MASKS..lengths::ROUND_CODINGS],
-    )
+    );
+    masks + lengths::MIDDLES
 }
 
 // The rounds, one after another.

@@ -87,7 +87,7 @@ module _ (c : RoundCodings) (v : ValidReadingRound c) (k t : List ℕ) (hk : Bel
     run-tables = record {
       entries = λ j n hj hn. h .subtracts i j n hi hj hn
           ∙ subtract-is-add (c .middle i j) (c .after i j) (g .middle-permute i j hi hj) (g .after-permute i j (omega arith) hj) (halfByte (getD k (2 * i) 0) j) (c .maskIn i j) n
-          (half-lt (getD k (2 * i) 0) j) (g .mask-bit i j hi hj) hn j (c .after (suc i) j) (halfByte (getD k (2 * i + 1) 0) j) (c .maskOut i j);
+          (half-lt (getD k (2 * i) 0) j) (g .mask-bit i j hi hj) hn (c .after (suc i) j) (halfByte (getD k (2 * i + 1) 0) j) (c .maskOut i j);
       low = λ j x hj hx. g .after-permute (suc i) j (omega arith) hj .low (bitXor x (bitXor 15 (halfByte (getD k (2 * i + 1) 0) j)))
           (xor-lt 4 x (bitXor 15 (halfByte (getD k (2 * i + 1) 0) j)) hx (xor-lt 4 15 (halfByte (getD k (2 * i + 1) 0) j) (lit< tt) (half-lt (getD k (2 * i + 1) 0) j)));
       bit = λ j hj. g .mask-bit i j hi hj;

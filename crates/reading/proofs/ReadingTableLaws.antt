@@ -9,7 +9,7 @@ use Rattle.lists.specs.Tabulation.{tab, chunks}
 use Rattle.lists.proofs.TabulationLaws.{tab-ext}
 use Rattle.lists.proofs.XorLaws.{xor-assoc}
 use Rattle.cipher.specs.Coding.{Permutation, decode}
-use Rattle.cipher.specs.Tables.{addSum, carryHeld, addEntry, turned, turnEntry}
+use Rattle.cipher.specs.Tables.{addSum, addEntry, turned, turnEntry}
 use Rattle.cipher.proofs.Permutation.{decode-lt}
 use Rattle.cipher.proofs.TableLaws.{add-rows, turn-rows}
 use Rattle.reading.specs.LikeSealing.{cutOf, sumCoding}
@@ -41,9 +41,9 @@ flip x h =
     omega arith
 
 module _ (f g : ℕ → ℕ) (p : Permutation f) (q : Permutation g) (k m n : ℕ) (hk : k < 16) (hm : m < 2) (hn : n < 512) where
-  pub subtract-is-add : (j : ℕ) (h : ℕ → ℕ) (l m' : ℕ) → subtractEntry j h l m' (difference f g k m n) ≡ addEntry j (sumCoding h l) m' (addSum f g 15 k m n)
+  pub subtract-is-add : (h : ℕ → ℕ) (l m' : ℕ) → subtractEntry h l m' (difference f g k m n) ≡ addEntry (sumCoding h l) m' (addSum f g 15 k m n)
   unfolding subtractEntry difference addEntry addSum
-  subtract-is-add j h l m' =
+  subtract-is-add h l m' =
       let x = decode f (n / 16 % 16) in
       let y = bitXor (decode g (n % 16)) k + bitXor (n / 256) m in
       let s = bitXor x 15 + bitXor (decode g (n % 16)) k + bitXor (n / 256) m in
@@ -53,16 +53,16 @@ module _ (f g : ℕ → ℕ) (p : Permutation f) (q : Permutation g) (k m n : �
       let e = flip x hx in
       let c : 1 - (16 + x - y) / 16 ≡ s / 16 = omega arith in
       let d : (16 + x - y) % 16 ≡ 15 - s % 16 = omega arith in
-      ap₂ (λ (u v : ℕ). 16 * carryHeld j u m' + h (bitXor v l)) c (d ∙ sym (flip (s % 16) (omega arith)))
-      ∙ ap (λ (u : ℕ). 16 * carryHeld j (s / 16) m' + h u) (xor-assoc (s % 16) 15 l)
+      ap₂ (λ (u v : ℕ). 16 * bitXor u m' + h (bitXor v l)) c (d ∙ sym (flip (s % 16) (omega arith)))
+      ∙ ap (λ (u : ℕ). 16 * bitXor (s / 16) m' + h u) (xor-assoc (s % 16) 15 l)
 
 -- a and b hold the operands decoded, a those of the turned half byte complemented, b those of the new word keyed; e the entry of each
 -- of the add table's sums
-pub subtract-rows : (f g h : ℕ → ℕ) (j k l m m' : ℕ) → Permutation f → Permutation g → k < 16 → m < 2 → (a b e : ℕ → ℕ)
+pub subtract-rows : (f g h : ℕ → ℕ) (k l m m' : ℕ) → Permutation f → Permutation g → k < 16 → m < 2 → (a b e : ℕ → ℕ)
     → ((p : ℕ) → p < 16 → bitXor (decode f p) 15 ≡ a p) → ((q : ℕ) → q < 16 → bitXor (decode g q) k ≡ b q)
-    → ((s : ℕ) → s < 32 → addEntry j (sumCoding h l) m' s ≡ e s)
-    → tab 512 (λ n. subtractEntry j h l m' (difference f g k m n)) ≡ chunks 32 (λ x. tab 16 (λ q. e (a (x % 16) + b q + bitXor (x / 16) m)))
-subtract-rows f g h j k l m m' pf pg hk hm a b e ea eb ee =
-    tab-ext 512 (λ n. subtractEntry j h l m' (difference f g k m n)) (λ n. addEntry j (sumCoding h l) m' (addSum f g 15 k m n))
-    (λ n hn. subtract-is-add f g pf pg k m n hk hm hn j h l m')
-    ∙ add-rows f g (sumCoding h l) j 15 k m m' pf pg (omega arith) hk hm a b e ea eb ee
+    → ((s : ℕ) → s < 32 → addEntry (sumCoding h l) m' s ≡ e s)
+    → tab 512 (λ n. subtractEntry h l m' (difference f g k m n)) ≡ chunks 32 (λ x. tab 16 (λ q. e (a (x % 16) + b q + bitXor (x / 16) m)))
+subtract-rows f g h k l m m' pf pg hk hm a b e ea eb ee =
+    tab-ext 512 (λ n. subtractEntry h l m' (difference f g k m n)) (λ n. addEntry (sumCoding h l) m' (addSum f g 15 k m n))
+    (λ n hn. subtract-is-add f g pf pg k m n hk hm hn h l m')
+    ∙ add-rows f g (sumCoding h l) 15 k m m' pf pg (omega arith) hk hm a b e ea eb ee

@@ -9,7 +9,7 @@ use lib.ListN.{getD}
 use Rattle.lists.specs.HalfBytes.{halfByte}
 use Rattle.cipher.specs.Lengths.{turnLength}
 use Rattle.cipher.specs.Coding.{SameWord, decode, blockHalf, ofHalves}
-use Rattle.cipher.specs.Tables.{carryHeld, RoundCodings, ValidCodings}
+use Rattle.cipher.specs.Tables.{RoundCodings, ValidCodings}
 use Rattle.reading.specs.Lengths.{subtractLength, subtractsStart}
 
 -- ---- an entry of a single table (02's sentences on turn tables, on what a subtract table takes from what, and on borrows)
@@ -29,10 +29,10 @@ turnBackEntry i f g h n = h (turnedBack i (decode f (n / 16)) (decode g (n % 16)
 unfoldable pub difference : (ℕ → ℕ) → (ℕ → ℕ) → ℕ → ℕ → ℕ → ℕ
 difference f g k m n = 16 + decode f (n / 16 % 16) - (bitXor (decode g (n % 16)) k + bitXor (n / 256) m)
 
--- a subtract entry for half byte j, where d is left: it borrowed unless d is 16 or more. The half byte d % 16 goes under the key half
--- byte l and is coded by h; m is the mask of the borrow out; the top half byte keeps none
-unfoldable pub subtractEntry : ℕ → (ℕ → ℕ) → ℕ → ℕ → ℕ → ℕ
-subtractEntry j h l m d = 16 * carryHeld j (1 - d / 16) m + h (bitXor (d % 16) l)
+-- a subtract entry, where d is left: it borrowed unless d is 16 or more. The half byte d % 16 goes under the key half byte l and is
+-- coded by h; m is the mask of the borrow out
+unfoldable pub subtractEntry : (ℕ → ℕ) → ℕ → ℕ → ℕ → ℕ
+subtractEntry h l m d = 16 * bitXor (1 - d / 16) m + h (bitXor (d % 16) l)
 
 -- ---- the tables of a round
 
@@ -55,7 +55,7 @@ turnBackTable c i j n = turnBackEntry i (c .before i (upperBack i j)) (c .before
 -- word i + 1
 unfoldable pub subtractTable : RoundCodings → List ℕ → ℕ → ℕ → ℕ → ℕ
 subtractTable c k i j n =
-    subtractEntry j (c .after (suc i) j) (halfByte (getD k (2 * i + 1) 0) j) (c .maskOut i j)
+    subtractEntry (c .after (suc i) j) (halfByte (getD k (2 * i + 1) 0) j) (c .maskOut i j)
     (difference (c .middle i j) (c .after i j) (halfByte (getD k (2 * i) 0) j) (c .maskIn i j) n)
 
 -- what a round of these tables asks of a chain: what a sealing book's asks, and the other word rule: after the round, word 0 is coded as

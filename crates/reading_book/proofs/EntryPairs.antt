@@ -10,7 +10,7 @@ use lib.ListN.{length, getD, set, length-set}
 use lib.Seq.{getD-set-same, getD-set-other}
 use Rattle.lists.specs.Tabulation.{tab}
 use Rattle.lists.proofs.TabulationLaws.{tab-is}
-use Rattle.cipher.specs.Tables.{carryHeld, addEntry}
+use Rattle.cipher.specs.Tables.{addEntry}
 use Rattle.cipher.specs.Chain.{maskOutOf}
 use Rattle.reading_book.specs.Made.{differenceEntries}
 
@@ -48,14 +48,14 @@ module _ (f : ℕ → ℕ) (e : List ℕ) where
           ap f (sym m) ∙ sym (b .high (k - 16) (omega arith)) ∙ ap (λ (o : ℕ). getD e o 0) m
 
 -- the entries of the sums s and s + 16, below 16 both of one difference
-pub entry-low : (A R : List ℕ) (l p s c d u : ℕ) → s < 16 → c ≡ carryHeld (p % 8) 0 (maskOutOf R (p / 8) (p % 8)) → d ≡ bitXor (s % 16) (bitXor 15 l)
+pub entry-low : (A R : List ℕ) (l p s c d u : ℕ) → s < 16 → c ≡ bitXor 0 (maskOutOf R (p / 8) (p % 8)) → d ≡ bitXor (s % 16) (bitXor 15 l)
     → u ≡ 16 * c + getD A (16 * (p + 8) + d) 0 → u ≡ differenceEntries A R l p s
 unfolding addEntry
 entry-low A R l p s c d u hs ec ed eu =
     let q : s / 16 ≡ 0 = omega arith in
     eu ∙ rw (ec, ed, q)
 
-pub entry-high : (A R : List ℕ) (l p s c d u : ℕ) → s < 16 → c ≡ carryHeld (p % 8) 1 (maskOutOf R (p / 8) (p % 8)) → d ≡ bitXor (s % 16) (bitXor 15 l)
+pub entry-high : (A R : List ℕ) (l p s c d u : ℕ) → s < 16 → c ≡ bitXor 1 (maskOutOf R (p / 8) (p % 8)) → d ≡ bitXor (s % 16) (bitXor 15 l)
     → u ≡ 16 * c + getD A (16 * (p + 8) + d) 0 → u ≡ differenceEntries A R l p (s + 16)
 unfolding addEntry
 entry-high A R l p s c d u hs ec ed eu =

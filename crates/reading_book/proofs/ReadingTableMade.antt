@@ -62,7 +62,7 @@ cut-is (suc zero) h = refl
 cut-is (suc (suc zero)) h = refl
 cut-is (suc (suc (suc i))) h = no-fourth i h
 
-back-lt : (i j : ℕ) → j < 8 → (upperBack i j < 8) × (lowerBack i j < 8)
+pub back-lt : (i j : ℕ) → j < 8 → (upperBack i j < 8) × (lowerBack i j < 8)
 back-lt zero j h = (omega arith, omega arith)
 back-lt (suc zero) j h = (omega arith, omega arith)
 back-lt (suc (suc i)) j h = (h, omega arith)
@@ -116,12 +116,12 @@ module _ (B A R K : List ℕ) (ready : RoundReady B A R) where
       let e : 8 * suc i + j ≡ p + 8 = omega arith in
       sums-are (inverted 24 R) (inverted 24 A) (16 * p) (16 * p) 15 k (maskInto R i j) (inverse-below 24 R (ready .middles)) (inverse-below 24 A after) (lit< tt) hk hm
       (differenceEntries A R l p)
-      ∙ sym (subtract-rows (codingAt R (8 * i + j)) (codingAt A (8 * i + j)) (codingAt A (8 * suc i + j)) j k l (maskInto R i j) (maskOutOf R i j)
+      ∙ sym (subtract-rows (codingAt R (8 * i + j)) (codingAt A (8 * i + j)) (codingAt A (8 * suc i + j)) k l (maskInto R i j) (maskOutOf R i j)
       (ready .middles (8 * i + j) (omega arith)) (after (8 * i + j) (omega arith)) hk hm
       (keyedBy (inverted 24 R) (16 * p) 15) (keyedBy (inverted 24 A) (16 * p) k) (differenceEntries A R l p)
       (λ v hv. ap (λ (y : ℕ). bitXor y 15) (inverse-at 24 R (16 * p + v) (8 * i + j) v (omega arith) hv (omega arith)))
       (λ v hv. ap (λ (y : ℕ). bitXor y k) (inverse-at 24 A (16 * p + v) (8 * i + j) v (omega arith) hv (omega arith)))
-      (λ s hs. ap (λ (y : ℕ). addEntry j (sumCoding (codingAt A y) l) (maskOutOf R i j) s) e))
+      (λ s hs. ap (λ (y : ℕ). addEntry (sumCoding (codingAt A y) l) (maskOutOf R i j) s) e))
 
   pub reading-is : chunks 24 (madeTurnBack (inverted 24 B) R) ++ chunks 24 (madeSubtract (inverted 24 R) (inverted 24 A) A R K) ≡ readingPart (codingsOf B A R) K
   unfolding readingPart twoKinds tables

@@ -22,7 +22,7 @@ madeTurnBack s R p =
 
 -- the entry of each sum of the add table that subtract table p is, under the key half byte l of the difference
 abbrev pub differenceEntries : List ℕ → List ℕ → ℕ → ℕ → ℕ → ℕ
-differenceEntries A R l p s = addEntry (p % 8) (sumCoding (codingAt A (p + 8)) l) (maskOutOf R (p / 8) (p % 8)) s
+differenceEntries A R l p s = addEntry (sumCoding (codingAt A (p + 8)) l) (maskOutOf R (p / 8) (p % 8)) s
 
 -- subtract table p: m has the middle codings inverted, n the words 0 to 2 of the set after the round
 unfoldable pub madeSubtract : List ℕ → List ℕ → List ℕ → List ℕ → List ℕ → ℕ → List ℕ

@@ -51,7 +51,7 @@ summands s at k m x = bitXor (getD s (at + x % 16) 0) k + bitXor (x / 16) m
 
 -- the entry of each sum
 abbrev pub sumEntries : List ℕ → ℕ → ℕ → ℕ
-sumEntries R p n = addEntry (p % 8) (codingAt R p) (maskOutOf R (p / 8) (p % 8)) n
+sumEntries R p n = addEntry (codingAt R p) (maskOutOf R (p / 8) (p % 8)) n
 
 unfoldable pub madeAdd : List ℕ → List ℕ → List ℕ → ℕ → List ℕ
 madeAdd s R k p =

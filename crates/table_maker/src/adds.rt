@@ -7,7 +7,6 @@ ghost use Rattle.cipher.specs.Lengths.{addLength, addsLength, setLength, coding
 ghost use Rattle.lists.specs.Tabulation.{tab, chunks};
 ghost use Rattle.lists.specs.Blocks.{Below};
 ghost use Rattle.lists.specs.HalfBytes.{halfByte};
-ghost use Rattle.cipher.specs.Tables.{carryHeld};
 ghost use Rattle.cipher.specs.Chain.{maskInto, maskOutOf};
 ghost use Rattle.table_maker.specs.Made.{RoundBytes, keyedBy, summands, sumEntries, madeAdd};
 use crate::rows::sum_table;
@@ -73,15 +72,12 @@ fn mask_out(round: &[u8], p: usize) -> u8
     round[lengths::MASKS + (lengths::HALVES * i + (p + 1) % lengths::HALVES)]
 }
 
-// The carry c out of half byte p, under its mask; at the top none is written.
+// The carry c out of half byte p, under its mask.
 pub fn carry_out(round: &[u8], p: usize, c: usize) -> u8
     requires { ⌜ (p < 24) × (c < 2) × RoundBytes (now round) ⌝ }
-    ensures { λ r. ⌜ (r ≡ carryHeld (p % 8) c (maskOutOf (now (round .entry)) (p / 8) (p % 8))) × (r < 2) ⌝ }
+    ensures { λ r. ⌜ (r ≡ bitXor c (maskOutOf (now (round .entry)) (p / 8) (p % 8))) × (r < 2) ⌝ }
 {
-    if p % lengths::HALVES < lengths::HALVES - 1 {
-        return (c as u8) ^ mask_out(round, p);
-    }
-    0
+    (c as u8) ^ mask_out(round, p)
 }
 
 // The entry of a sum: its carry and its half byte, coded.

@@ -47,8 +47,7 @@ fn set_byte(n: u8, i: usize) -> u8
     entry(5 * coding + n as usize, e)
 }
 
-// Byte i of the rounds of pad n's chain: 24 middle codings, then 24 masks, those of half byte 0
-// being 0.
+// Byte i of the rounds of pad n's chain: 24 middle codings, then 24 masks.
 fn round_byte(n: u8, i: usize) -> u8 {
     let l = i / lengths::ROUND_CODINGS;
     let k = i % lengths::ROUND_CODINGS;
@@ -57,9 +56,6 @@ fn round_byte(n: u8, i: usize) -> u8 {
             7 * (k / lengths::CODING) + l % 100 + n as usize,
             k % lengths::CODING,
         );
-    }
-    if k % lengths::HALVES == 0 {
-        return 0;
     }
     if (k + l % 100) % 3 == 0 { 1 } else { 0 }
 }

@@ -1,10 +1,9 @@
 -- `count::round_draws` meets its contract.
 use native.Mathlib.Omega.{arith}
 use borrow.Author.Needs.{needs}
-use lib.ListN.{drop}
 use Rattle.maker.specs.MadeChain.{middlesDraw}
 use Rattle.coding_maker.proofs.DrawTurns.{near}
-use Rattle.maker.proofs.ChainTurns.{round-draws-is, within-middles}
+use Rattle.maker.proofs.ChainTurns.{within-middles, round-draws-in}
 use Rattle.maker.proofs.count.round_draws.Statement.{statement}
 use Rattle.maker.proofs.count.round_draws.Tie as tie
 
@@ -16,7 +15,7 @@ add-result c =
 returns : tie.Need-returns
 returns c =
     let a = c .before .before .before .args in
-    omega (arith, c .middles-draw .ensures, round-draws-is (drop (a .start) (a .random .now)))
+    round-draws-in (a .random .now) (a .start) (c .middles-draw .result) (c .middles-draw .ensures)
 
 pub round-draws-spec : {M : Type 1} → statement M
-round-draws-spec = tie.close (tie.spec (λ c κs. search needs) (λ c. search needs) add-result returns)
+round-draws-spec = tie.close (tie.spec (λ c κs. search needs) add-result returns)

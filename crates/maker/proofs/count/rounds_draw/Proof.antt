@@ -24,7 +24,7 @@ round-draws-requires c κs =
     let l = c .before in
     let e = l .before .before .before in
     let a = e .args in
-    (e .pre .0, omega (arith, e .pre .1, e .pre .2, l .loop .inv .0, begins-near 381 roundUse (λ l. within-round) (a .random .now) (a .start) (l .loop .at) (l .loop .l) (l .loop .inv .1)))
+    (e .pre .0, omega (arith, e .pre .1, e .pre .2, l .loop .inv .0, begins-near 384 roundUse (λ l. within-round) (a .random .now) (a .start) (l .loop .at) (l .loop .l) (l .loop .inv .1)))
 
 loop-again : tie.Need-loop-again Inv-loop μ-loop
 loop-again c =

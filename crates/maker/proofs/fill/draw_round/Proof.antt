@@ -25,13 +25,19 @@ draw-masks-requires c κs =
       second-length (d .draw-middles .last .1 .1 .1 .0) (e .args .out .now) (e .args .out .now) 384 24 (e .pre .2) (ap length (d .draw-middles .ensures .1) ∙ length-middles _),
     )
 
+add-result : tie.Need-add-result
+add-result c =
+    let d = c .before .before .before .before .before .before in
+    let e = d .before .before .before .before .before in
+    omega (arith, d .draw-middles .ensures .0, near 360 middlesDraw within-middles (e .args .random .now) (e .args .start), e .pre .1)
+
 same-length : tie.Need-same-length
 same-length c =
     let m = c .before .before in
     let d = m .before .before .before .before in
     let e = d .before .before .before .before .before in
     two-length (d .draw-middles .last .1 .1 .1 .0) (m .draw-masks .last .1 .1 .0) (e .args .out .now) 384 24 (e .pre .2)
-    (ap length (d .draw-middles .ensures .1) ∙ length-middles _) (ap length (m .draw-masks .ensures .1) ∙ length-masks _)
+    (ap length (d .draw-middles .ensures .1) ∙ length-middles _) (ap length (m .draw-masks .ensures) ∙ length-masks _)
 
 returns : tie.Need-returns
 returns c =
@@ -39,14 +45,14 @@ returns c =
     let d = m .before .before .before .before in
     let e = d .before .before .before .before .before in
     let s = e .args .random .now in (
-      round-draws-in s (e .args .start) (d .draw-middles .result) (m .draw-masks .result) (d .draw-middles .ensures .0) (m .draw-masks .ensures .0),
+      round-draws-in s (e .args .start) (d .draw-middles .result) (d .draw-middles .ensures .0),
       two-joined (d .draw-middles .last .1 .1 .1 .0) (m .draw-masks .last .1 .1 .0) (e .args .out .now) 384 24 (e .pre .2) (ap length (d .draw-middles .ensures .1) ∙ length-middles _)
           ∙ round-from-in s (d .draw-middles .last .1 .1 .1 .0) (m .draw-masks .last .1 .1 .0) (e .args .start) (d .draw-middles .result)
-          (d .draw-middles .ensures .0) (d .draw-middles .ensures .1) (m .draw-masks .ensures .1),
+          (d .draw-middles .ensures .0) (d .draw-middles .ensures .1) (m .draw-masks .ensures),
     )
 
 pub draw-round-spec : {M : Type 1} → statement M
 draw-round-spec =
     tie.close
     (tie.spec (λ c. search needs) (λ c. search needs) (λ c. search needs) draw-middles-requires (λ c. search needs) (λ c. search needs)
-    (λ c. search needs) draw-masks-requires same-length returns)
+    (λ c. search needs) draw-masks-requires add-result same-length returns)

@@ -33,7 +33,7 @@ draw-round-requires c κs =
     let e = l .before .before .before .before in
     let a = e .args in (
       e .pre .0,
-      omega (arith, e .pre .1, e .pre .2, l .loop .inv .0, begins-near 381 roundUse (λ l. within-round) (a .random .now) (a .start) (l .loop .at) (l .loop .l) (l .loop .inv .2)),
+      omega (arith, e .pre .1, e .pre .2, l .loop .inv .0, begins-near 384 roundUse (λ l. within-round) (a .random .now) (a .start) (l .loop .at) (l .loop .l) (l .loop .inv .2)),
       length-part (l .loop .out) (l .loop .a) 408 (omega (arith, l .loop .inv .1, l .loop .inv .3, e .pre .3)),
     )
 

@@ -1,19 +1,14 @@
 -- `adds::carry_out` meets its contract.
-use mathlib.Core.Path.{sym, ap, _∙_}
-use native.Mathlib.Omega.{arith}
+use mathlib.Core.Path.{ap}
 use borrow.Author.Needs.{needs}
 use lib.Bits.{bitXor, xor-lt}
-use Rattle.cipher.proofs.TableLaws.{carry-held, carry-top}
 use Rattle.table_maker.proofs.adds.carry_out.Statement.{statement}
 use Rattle.table_maker.proofs.adds.carry_out.Tie as tie
 
 returns : tie.Need-returns
 returns c =
-    let s = c .before .before .before in
-    (ap (bitXor (s .args .c)) (c .mask-out .ensures .0) ∙ sym (carry-held _ _ _ (omega arith)), xor-lt 1 _ _ (s .pre .1) (c .mask-out .ensures .1))
-
-returns-2 : tie.Need-returns-2
-returns-2 c = (sym (carry-top _ _ _ (omega arith)), omega arith)
+    let s = c .before .before in
+    (ap (bitXor (s .args .c)) (c .mask-out .ensures .0), xor-lt 1 _ _ (s .pre .1) (c .mask-out .ensures .1))
 
 pub carry-out-spec : {M : Type 1} → statement M
-carry-out-spec = tie.close (tie.spec (λ c. search needs) (λ c. search needs) (λ c κs. search needs) returns returns-2)
+carry-out-spec = tie.close (tie.spec (λ c. search needs) (λ c κs. search needs) returns)
