@@ -1,6 +1,6 @@
 -- The body of the book of rows and a chain holds at each offset the byte that it should; and what is said of these bytes leaves none
 -- of them open: it is said of one list alone.
-use mathlib.Core.Path.{_≡_, refl, sym, ap, _∙_}
+use mathlib.Core.Path.{_≡_, refl, sym, ap, _∙_, subst}
 use mathlib.Core.List.{List, [], _++_}
 use Prim.Native.Nat.{ℕ, suc, _+_, _-_, _*_, _/_, _%_, _≤_, _<_}
 use native.Mathlib.Decide.{decLt}
@@ -163,51 +163,57 @@ module _ (r : ℕ) (rows : List (List ℕ)) (ch bk : List ℕ) (h : Book r rows 
   byte-of-turn l i j n hl hi hj hn =
       sym (getD-drop (roundsStart + roundLength * l) bk (12288 + 256 * (8 * i + j) + n) 0) ∙ h .tables l hl .turns i j n hi hj hn
 
--- ---- and no byte is left open
+-- ---- and no byte is left open: what is so at each of these offsets is so at all
 
-module _ (r : ℕ) (rows : List (List ℕ)) (ch bk bk' : List ℕ) (h : Book r rows ch bk) (h' : Book r rows ch bk') where
-  -- the same byte at k, where k is the offset o
-  moved : (k o : ℕ) → o ≡ k → getD bk o 0 ≡ getD bk' o 0 → getD bk k 0 ≡ getD bk' k 0
-  moved k o e d = rw e at d
+module _ (r : ℕ) (P : ℕ → Type 0) (start : (k : ℕ) → k < startLength → P k)
+    (folds : (g w j n : ℕ) → g < 3 → w < 4 → j < 8 → n < 256 → P (startLength + groupLength * g + (256 * (8 * w + j) + n)))
+    (adds : (l i j n : ℕ) → l < r → i < 3 → j < 8 → n < 512 → P (roundsStart + roundLength * l + (512 * (8 * i + j) + n)))
+    (turns : (l i j n : ℕ) → l < r → i < 3 → j < 8 → n < 256 → P (roundsStart + roundLength * l + (12288 + 256 * (8 * i + j) + n))) where
+  -- at k, which is the offset o
+  moved : (k o : ℕ) → o ≡ k → P o → P k
+  moved k o e d = subst P e d
 
-  same-fold : (k : ℕ) → startLength ≤ k → k < roundsStart → getD bk k 0 ≡ getD bk' k 0
-  same-fold k a b =
+  at-fold : (k : ℕ) → startLength ≤ k → k < roundsStart → P k
+  at-fold k a b =
       let e = k - 16 in
       let g = e / 256 / 8 / 4 in
       let w = e / 256 / 8 % 4 in
       let j = e / 256 % 8 in
       let n = e % 256 in
-      moved k (startLength + groupLength * g + (256 * (8 * w + j) + n)) (omega arith)
-      (byte-of-fold r rows ch bk h g w j n (omega arith) (omega arith) (omega arith) (omega arith)
-      ∙ sym (byte-of-fold r rows ch bk' h' g w j n (omega arith) (omega arith) (omega arith) (omega arith)))
+      moved k (startLength + groupLength * g + (256 * (8 * w + j) + n)) (omega arith) (folds g w j n (omega arith) (omega arith) (omega arith) (omega arith))
 
-  same-round : (l o : ℕ) → l < r → o < roundLength → Dec (o < 12288) → getD bk (roundsStart + roundLength * l + o) 0 ≡ getD bk' (roundsStart + roundLength * l + o) 0
-  same-round l o hl ho (yes d) =
+  at-round : (l o : ℕ) → l < r → o < roundLength → Dec (o < 12288) → P (roundsStart + roundLength * l + o)
+  at-round l o hl ho (yes d) =
       let i = o / 512 / 8 in
       let j = o / 512 % 8 in
       let n = o % 512 in
-      moved (roundsStart + roundLength * l + o) (roundsStart + roundLength * l + (512 * (8 * i + j) + n)) (omega arith)
-      (byte-of-add r rows ch bk h l i j n hl (omega arith) (omega arith) (omega arith)
-      ∙ sym (byte-of-add r rows ch bk' h' l i j n hl (omega arith) (omega arith) (omega arith)))
-  same-round l o hl ho (no d) =
+      moved (roundsStart + roundLength * l + o) (roundsStart + roundLength * l + (512 * (8 * i + j) + n)) (omega arith) (adds l i j n hl (omega arith) (omega arith) (omega arith))
+  at-round l o hl ho (no d) =
       let p = o - 12288 in
       let i = p / 256 / 8 in
       let j = p / 256 % 8 in
       let n = p % 256 in
       moved (roundsStart + roundLength * l + o) (roundsStart + roundLength * l + (12288 + 256 * (8 * i + j) + n)) (omega arith)
-      (byte-of-turn r rows ch bk h l i j n hl (omega arith) (omega arith) (omega arith)
-      ∙ sym (byte-of-turn r rows ch bk' h' l i j n hl (omega arith) (omega arith) (omega arith)))
+      (turns l i j n hl (omega arith) (omega arith) (omega arith))
 
-  same-byte : (k : ℕ) → k < roundsStart + roundLength * r → Dec (k < startLength) → Dec (k < roundsStart) → getD bk k 0 ≡ getD bk' k 0
-  same-byte k b (yes d) e = byte-of-start r rows ch bk h k d ∙ sym (byte-of-start r rows ch bk' h' k d)
-  same-byte k b (no d) (yes e) = same-fold k (omega arith) e
-  same-byte k b (no d) (no e) =
+  at : (k : ℕ) → k < roundsStart + roundLength * r → Dec (k < startLength) → Dec (k < roundsStart) → P k
+  at k b (yes d) e = start k d
+  at k b (no d) (yes e) = at-fold k (omega arith) e
+  at k b (no d) (no e) =
       let l = (k - roundsStart) / roundLength in
       let o = (k - roundsStart) % roundLength in
-      moved k (roundsStart + roundLength * l + o) (omega arith) (same-round l o (omega arith) (omega arith) (decLt o 12288))
+      moved k (roundsStart + roundLength * l + o) (omega arith) (at-round l o (omega arith) (omega arith) (decLt o 12288))
 
+  pub every-offset : (k : ℕ) → k < roundsStart + roundLength * r → P k
+  every-offset k b = at k b (decLt k startLength) (decLt k roundsStart)
+
+module _ (r : ℕ) (rows : List (List ℕ)) (ch bk bk' : List ℕ) (h : Book r rows ch bk) (h' : Book r rows ch bk') where
   pub book-only : bk ≡ bk'
   book-only =
       ext-getD 0 bk bk' (h .size ∙ sym (h' .size)) (λ k b.
       let m : k < roundsStart + roundLength * r = rw (h .size) at b in
-      same-byte k m (decLt k startLength) (decLt k roundsStart))
+      every-offset r (λ k. getD bk k 0 ≡ getD bk' k 0)
+      (λ k l. byte-of-start r rows ch bk h k l ∙ sym (byte-of-start r rows ch bk' h' k l))
+      (λ g w j n hg hw hj hn. byte-of-fold r rows ch bk h g w j n hg hw hj hn ∙ sym (byte-of-fold r rows ch bk' h' g w j n hg hw hj hn))
+      (λ l i j n hl hi hj hn. byte-of-add r rows ch bk h l i j n hl hi hj hn ∙ sym (byte-of-add r rows ch bk' h' l i j n hl hi hj hn))
+      (λ l i j n hl hi hj hn. byte-of-turn r rows ch bk h l i j n hl hi hj hn ∙ sym (byte-of-turn r rows ch bk' h' l i j n hl hi hj hn)) k m)

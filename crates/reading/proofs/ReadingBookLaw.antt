@@ -1,6 +1,6 @@
 -- The reading book of rows and a chain holds at each offset the byte that it should; and what is said of these bytes leaves none
 -- of them open: it is said of one list alone.
-use mathlib.Core.Path.{_≡_, refl, sym, ap, _∙_}
+use mathlib.Core.Path.{_≡_, refl, sym, ap, _∙_, subst}
 use mathlib.Core.List.{List}
 use Prim.Native.Nat.{ℕ, _+_, _-_, _*_, _/_, _%_, _<_}
 use native.Mathlib.Decide.{decLt}
@@ -105,48 +105,52 @@ module _ (r : ℕ) (rows : List (List ℕ)) (ch bk : List ℕ) (h : ReadingBook 
   byte-of-fold w j n hw hj hn =
       sym (getD-drop (roundLength * r) bk (256 * (8 * w + j) + n) 0) ∙ h .folds w j n hw hj hn
 
--- ---- and no byte is left open
+-- ---- and no byte is left open: what is so at each of these offsets is so at all
 
-module _ (r : ℕ) (rows : List (List ℕ)) (ch bk bk' : List ℕ) (h : ReadingBook r rows ch bk) (h' : ReadingBook r rows ch bk') where
-  -- the same byte at k, where k is the offset o
-  moved : (k o : ℕ) → o ≡ k → getD bk o 0 ≡ getD bk' o 0 → getD bk k 0 ≡ getD bk' k 0
-  moved k o e d = rw e at d
+module _ (r : ℕ) (P : ℕ → Type 0)
+    (turns : (l i j n : ℕ) → l < r → i < 3 → j < 8 → n < 256 → P (roundLength * l + (256 * (8 * i + j) + n)))
+    (subtracts : (l i j n : ℕ) → l < r → i < 3 → j < 8 → n < 512 → P (roundLength * l + (6144 + 512 * (8 * i + j) + n)))
+    (folds : (w j n : ℕ) → w < 4 → j < 8 → n < 256 → P (roundLength * r + (256 * (8 * w + j) + n))) where
+  -- at k, which is the offset o
+  moved : (k o : ℕ) → o ≡ k → P o → P k
+  moved k o e d = subst P e d
 
-  same-fold : (o : ℕ) → o < groupLength → getD bk (roundLength * r + o) 0 ≡ getD bk' (roundLength * r + o) 0
-  same-fold o b =
+  at-fold : (o : ℕ) → o < groupLength → P (roundLength * r + o)
+  at-fold o b =
       let w = o / 256 / 8 in
       let j = o / 256 % 8 in
       let n = o % 256 in
-      moved (roundLength * r + o) (roundLength * r + (256 * (8 * w + j) + n)) (omega arith)
-      (byte-of-fold r rows ch bk h w j n (omega arith) (omega arith) (omega arith)
-      ∙ sym (byte-of-fold r rows ch bk' h' w j n (omega arith) (omega arith) (omega arith)))
+      moved (roundLength * r + o) (roundLength * r + (256 * (8 * w + j) + n)) (omega arith) (folds w j n (omega arith) (omega arith) (omega arith))
 
-  same-round : (l o : ℕ) → l < r → o < roundLength → Dec (o < 6144) → getD bk (roundLength * l + o) 0 ≡ getD bk' (roundLength * l + o) 0
-  same-round l o hl ho (yes d) =
+  at-round : (l o : ℕ) → l < r → o < roundLength → Dec (o < 6144) → P (roundLength * l + o)
+  at-round l o hl ho (yes d) =
       let i = o / 256 / 8 in
       let j = o / 256 % 8 in
       let n = o % 256 in
-      moved (roundLength * l + o) (roundLength * l + (256 * (8 * i + j) + n)) (omega arith)
-      (byte-of-turn r rows ch bk h l i j n hl (omega arith) (omega arith) (omega arith)
-      ∙ sym (byte-of-turn r rows ch bk' h' l i j n hl (omega arith) (omega arith) (omega arith)))
-  same-round l o hl ho (no d) =
+      moved (roundLength * l + o) (roundLength * l + (256 * (8 * i + j) + n)) (omega arith) (turns l i j n hl (omega arith) (omega arith) (omega arith))
+  at-round l o hl ho (no d) =
       let p = o - 6144 in
       let i = p / 512 / 8 in
       let j = p / 512 % 8 in
       let n = p % 512 in
-      moved (roundLength * l + o) (roundLength * l + (6144 + 512 * (8 * i + j) + n)) (omega arith)
-      (byte-of-subtract r rows ch bk h l i j n hl (omega arith) (omega arith) (omega arith)
-      ∙ sym (byte-of-subtract r rows ch bk' h' l i j n hl (omega arith) (omega arith) (omega arith)))
+      moved (roundLength * l + o) (roundLength * l + (6144 + 512 * (8 * i + j) + n)) (omega arith) (subtracts l i j n hl (omega arith) (omega arith) (omega arith))
 
-  same-byte : (k : ℕ) → k < groupLength + roundLength * r → Dec (k < roundLength * r) → getD bk k 0 ≡ getD bk' k 0
-  same-byte k b (yes d) =
+  at : (k : ℕ) → k < groupLength + roundLength * r → Dec (k < roundLength * r) → P k
+  at k b (yes d) =
       let l = k / roundLength in
       let o = k % roundLength in
-      moved k (roundLength * l + o) (omega arith) (same-round l o (omega arith) (omega arith) (decLt o 6144))
-  same-byte k b (no d) = moved k (roundLength * r + (k - roundLength * r)) (omega arith) (same-fold (k - roundLength * r) (omega arith))
+      moved k (roundLength * l + o) (omega arith) (at-round l o (omega arith) (omega arith) (decLt o 6144))
+  at k b (no d) = moved k (roundLength * r + (k - roundLength * r)) (omega arith) (at-fold (k - roundLength * r) (omega arith))
 
+  pub every-offset : (k : ℕ) → k < groupLength + roundLength * r → P k
+  every-offset k b = at k b (decLt k (roundLength * r))
+
+module _ (r : ℕ) (rows : List (List ℕ)) (ch bk bk' : List ℕ) (h : ReadingBook r rows ch bk) (h' : ReadingBook r rows ch bk') where
   pub reading-book-only : bk ≡ bk'
   reading-book-only =
       ext-getD 0 bk bk' (h .size ∙ sym (h' .size)) (λ k b.
       let m : k < groupLength + roundLength * r = rw (h .size) at b in
-      same-byte k m (decLt k (roundLength * r)))
+      every-offset r (λ k. getD bk k 0 ≡ getD bk' k 0)
+      (λ l i j n hl hi hj hn. byte-of-turn r rows ch bk h l i j n hl hi hj hn ∙ sym (byte-of-turn r rows ch bk' h' l i j n hl hi hj hn))
+      (λ l i j n hl hi hj hn. byte-of-subtract r rows ch bk h l i j n hl hi hj hn ∙ sym (byte-of-subtract r rows ch bk' h' l i j n hl hi hj hn))
+      (λ w j n hw hj hn. byte-of-fold r rows ch bk h w j n hw hj hn ∙ sym (byte-of-fold r rows ch bk' h' w j n hw hj hn)) k m)
