@@ -138,9 +138,12 @@ module _ (key ch out held : List ℕ) (built : ReadingBuilt key ch out held) whe
   pub reading-built-chain : ReadingChain (keySize key) ch
   reading-built-chain = into-chain 3 0 key ch out held readingBookLength readingBookFor built
 
+  pub reading-built-is : readingBookIn key held ≡ readingBookOf (keyRounds key) (keyRows (keySize key) key) ch
+  reading-built-is =
+      into-front 3 0 key ch out held readingBookLength readingBookFor built (reading-book-size (keyRounds key) (keyRows (keySize key) key) ch)
+
   pub reading-built-book : ReadingBook (keyRounds key) (keyRows (keySize key) key) ch (readingBookIn key held)
   reading-built-book =
       let r = keyRounds key in
       let rows = keyRows (keySize key) key in
-      let is = into-front 3 0 key ch out held readingBookLength readingBookFor built (reading-book-size r rows ch) in
-      subst (λ (b : List ℕ). ReadingBook r rows ch b) (sym is) (reading-book-made r rows ch)
+      subst (λ (b : List ℕ). ReadingBook r rows ch b) (sym reading-built-is) (reading-book-made r rows ch)

@@ -18,5 +18,8 @@ pub mod TagTheorem
 pub mod PremisesMet
 pub mod Marked
 pub mod RefusalOrder
+pub mod TopUnread
+pub mod TopEntries
+pub mod TopMaskTheorem
 pub mod Demand3Theorem
 pub mod WorksTheorem

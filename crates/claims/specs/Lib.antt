@@ -10,4 +10,5 @@ pub mod Demand3
 pub mod Examples
 pub mod Order
 pub mod Ink
+pub mod TopMasks
 pub mod Works
