@@ -2,7 +2,7 @@
 //! are skipped, that run out and that are behind, chains from the bytes that make them, each refusal with its
 //! neighbours, which of several comes first, and made chains on the whole way.
 
-use reference::chain::{CODING, MIDDLES, ROUND, SET, WORD};
+use reference::chain::{CODING, MIDDLES, SET, WORD};
 use reference::Size;
 use shared::book::{build, build_reading, Build};
 use shared::books::Built;
@@ -71,20 +71,14 @@ fn every_byte_as_every_mask() {
     });
 }
 
-/// How many bytes a round draws where none is skipped: those of its middle codings, and one for each mask.
-const DRAWN: usize = 15 * MIDDLES + MIDDLES;
-
 /// The masks of a round are drawn as they stand: one byte that is odd makes 1 of one mask, those at half byte 0
 /// too.
 #[test]
 fn each_mask_from_its_own_byte() {
     on_each(|kind, size| {
-        let (stay, same) = (kind.stay(size), uniform(size, IDENTITY, 0));
         for l in places(size.rounds()) {
             for place in 0..MIDDLES {
-                let (mut bytes, mut due, left) = (stay.clone(), same.clone(), size.rounds() - l);
-                bytes[stay.len() - DRAWN * left + 15 * MIDDLES + place] = 1;
-                due[same.len() - ROUND * left + CODING * MIDDLES + place] = 1;
+                let (bytes, due) = kind.one_mask(size, l, place, 1);
                 must_make(kind, size, &bytes, due, place);
             }
         }
@@ -92,15 +86,16 @@ fn each_mask_from_its_own_byte() {
 }
 
 /// With none skipped, all of U is drawn, all of set 0 unless it is given, and for each round three words of the
-/// set behind it and the round itself. One byte fewer is too few.
+/// set behind it and the round itself: 15 bytes for a coding, one for a mask. One byte fewer is too few.
 #[test]
 fn the_fewest_bytes() {
     on_each(|kind, size| {
         let before = match kind {
-            Kind::Sealing => 15 * 64,
-            Kind::Reading => 15 * 32,
+            Kind::Sealing => 960,
+            Kind::Reading => 480,
         };
-        let n = before + (15 * 24 + DRAWN) * size.rounds();
+        let n = kind.fewest(size);
+        assert_eq!(n, before + 744 * size.rounds(), "{kind:?}, {size:?}");
         let told = |n: usize| made(kind, size, &IDENTITY.repeat(32), &vec![0; n]);
         assert_eq!(told(n).map(|(n, _)| n), Ok(n), "{kind:?}, {size:?}");
         assert_eq!(told(n - 1), Err(32), "{kind:?}, {size:?}");

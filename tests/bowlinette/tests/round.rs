@@ -217,6 +217,7 @@ fn masks_of_the_top_carries() {
     for size in Size::ALL {
         let mut all = valid(size, &mut random);
         let text = run(&all);
+        assert!(text.starts_with("1 "), "{size:?}: {text}");
         for at in chains::top_masks(size) {
             all[chain_at(size) + at] ^= 1;
         }

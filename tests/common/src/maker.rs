@@ -1,6 +1,6 @@
 //! Chains made on both versions, and the bytes that they are made from.
 
-use crate::chains::{Kind, IDENTITY};
+use crate::chains::{uniform, Kind, IDENTITY};
 use crate::lent::{both, told, FILL, LENGTH};
 use crate::Random;
 use reference::chain::{CODING, MIDDLES, ROUND, SET, WORD};
@@ -116,6 +116,18 @@ impl Kind {
             Part::Coding(_) => STAY.to_vec(),
             Part::Mask(_) => vec![0],
         })
+    }
+
+    /// The bytes of `stay` with another for one mask of round l, and the chain that they make. A round draws 15
+    /// bytes for each middle coding, then one for each mask.
+    pub fn one_mask(self, size: Size, l: usize, place: usize, byte: u8) -> (Vec<u8>, Vec<u8>) {
+        let (mut bytes, mut chain) = (self.stay(size), uniform(size, IDENTITY, 0));
+        let left = size.rounds() - l;
+        let draws = bytes.len() - 16 * MIDDLES * left;
+        let round = chain.len() - ROUND * left;
+        bytes[draws + 15 * MIDDLES + place] = byte;
+        chain[round + CODING * MIDDLES + place] = byte % 2;
+        (bytes, chain)
     }
 
     /// Bytes that make a chain, all of them drawn.

@@ -1,5 +1,5 @@
 //! The chain maker of the reference: chains worked out by hand, the bytes that are skipped, how many are
-//! drawn, random chains from the bytes that make them, which masks are valid, and what is refused.
+//! drawn, random chains from the bytes that make them, and what is refused.
 
 use reference::chain::{check, check_reading, SET, WORD};
 use reference::Size;
@@ -131,33 +131,13 @@ fn skipped_again_and_again() {
 #[test]
 fn every_byte_as_every_mask() {
     let (kind, size, set) = (Kind::Sealing, Size::Lea256, IDENTITY.repeat(32));
-    let (mut random, mut due) = (kind.stay(size), uniform(size, IDENTITY, 0));
-    for place in 1..=24 {
-        let (n, last) = (random.len() - place, due.len() - place);
+    for place in 0..24 {
         for byte in 0..=255 {
-            (random[n], due[last]) = (byte, byte % 2);
+            let (random, due) = kind.one_mask(size, 31, place, byte);
             let told = made(kind, size, &set, &random);
-            assert!(told == Ok((random.len(), due.clone())), "{place}, {byte}");
+            assert!(told == Ok((random.len(), due)), "{place}, {byte}");
         }
-        (random[n], due[last]) = (0, 0);
     }
-}
-
-/// A chain with any byte for one of the 24 masks of its last round is valid if that is 0 or 1.
-#[test]
-fn masks_of_valid_chains() {
-    on_each(|kind, size| {
-        let mut chain = uniform(size, IDENTITY, 0);
-        for at in chain.len() - 24..chain.len() {
-            for byte in 0..=255 {
-                chain[at] = byte;
-                let due = if byte > 1 { Some(5) } else { None };
-                let told = checked(kind, size.key_bytes(), &chain);
-                assert_eq!(told, due, "{kind:?}, {size:?}, {at}, {byte}");
-            }
-            chain[at] = 1;
-        }
-    });
 }
 
 #[test]

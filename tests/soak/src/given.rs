@@ -189,7 +189,7 @@ impl<'a> Given<'a> {
         let middles = sets + chain::ROUND * self.random.below(rounds);
         let masks = middles + CODING * MIDDLES;
         let swapped = SET * (1 + self.random.below(rounds + 1)) + self.random.below(WORD - 1);
-        match self.random.below(11) {
+        match self.random.below(10) {
             0 => self.recut(chain),
             1 => *chain = self.random.bytes(whole),
             2 => self.flip(chain),
@@ -198,8 +198,7 @@ impl<'a> Given<'a> {
             5 => chain.swap(swapped, swapped + 1),
             6 => chain.swap(swapped + 3 * WORD, swapped + 3 * WORD + 1),
             7 => chain[masks + self.random.below(MIDDLES)] = 2 + self.random.below(254) as u8,
-            8 => chain[masks + 8 * self.random.below(3)] ^= 2,
-            9 => chain.clone_from(&self.built.chain),
+            8 => chain.clone_from(&self.built.chain),
             _ => chain.clone_from(&self.reading.chain),
         }
     }
