@@ -24,7 +24,7 @@ use Rattle.cipher.specs.declared.size.KeySize.{KeySize}
 use Rattle.cipher.specs.Book.{twoKinds, roundPart, groupPart}
 use Rattle.cipher.proofs.Permutation.{decode-lt}
 use Rattle.cipher.proofs.InverseLaws.{length-inverted, inverted-at}
-use Rattle.cipher.proofs.TableLaws.{add-rows, turn-rows, fold-rows}
+use Rattle.cipher.proofs.TableLaws.{upper-lt, lower-lt, add-rows, turn-rows, fold-rows}
 use Rattle.table_maker.specs.Rows.{rowBy, tableBy}
 use Rattle.table_maker.specs.Made.{RoundBytes, RoundReady, codingsOf, keyedBy, summands, sumEntries, madeAdd, upperPart, lowerPart, upperParts, lowerParts, turnedRows, madeTurn, madeFold}
 use Rattle.table_maker.proofs.MadeLaws.{length-add, length-turn}
@@ -79,16 +79,6 @@ parts-turn : (i u v : ℕ) → v < 16 → upperPart i u + lowerPart i v ≡ turn
 parts-turn zero u v h = omega arith
 parts-turn (suc zero) u v h = omega arith
 parts-turn (suc (suc i)) u v h = omega arith
-
-pub upper-lt : (i j : ℕ) → upper i j < 8
-upper-lt zero j = omega arith
-upper-lt (suc zero) j = omega arith
-upper-lt (suc (suc i)) j = omega arith
-
-pub lower-lt : (i j : ℕ) → j < 8 → lower i j < 8
-lower-lt zero j h = omega arith
-lower-lt (suc zero) j h = omega arith
-lower-lt (suc (suc i)) j h = h
 
 -- a table of sums: s has the rows' operands, t those of the places, each from a place on
 module _ (s t : List ℕ) (at at' k l m : ℕ) (hs : Below 16 s) (ht : Below 16 t) (hk : k < 16) (hl : l < 16) (hm : m < 2) (entry : ℕ → ℕ) where

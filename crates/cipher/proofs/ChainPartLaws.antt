@@ -1,6 +1,6 @@
 -- A chain put together from its parts: its length, what stands in each place of it, that it is valid exactly where its parts are as
 -- they must be; and every chain is the one that is put together from what it has.
-use mathlib.Core.Path.{_≡_, sym, _∙_}
+use mathlib.Core.Path.{_≡_, sym, _∙_, subst}
 use mathlib.Core.List.{List, _++_}
 use Prim.Native.Nat.{ℕ, suc, _+_, _-_, _*_, _/_, _%_, _≤_, _<_}
 use native.Mathlib.Decide.{decLt}
@@ -141,57 +141,65 @@ module _ (from to : ℕ) (hf : from < 4) (ht : to < 4) (z : KeySize) (U : Set) (
     bits = λ l k hl hk. rw (sym (mask-read r U S G M l k hl hk)) (h .masks l k hl hk);
   }
 
--- ---- a chain has nothing besides its parts
+-- ---- a chain has nothing besides its parts: what is so of each byte of these is so of all
+
+module _ (r : ℕ) (P : ℕ → Type 0) (message : (w j v : ℕ) → w < 4 → j < 8 → v < 16 → P (codingLength * (8 * w + j) + v))
+    (sets : (l w j v : ℕ) → l ≤ r → w < 4 → j < 8 → v < 16 → P (setLength * suc l + (codingLength * (8 * w + j) + v)))
+    (middles : (l i j v : ℕ) → l < r → i < 3 → j < 8 → v < 16 → P (setLength * (r + 2) + roundCodingsLength * l + (codingLength * (8 * i + j) + v)))
+    (masks : (l k : ℕ) → l < r → k < 24 → P (setLength * (r + 2) + roundCodingsLength * l + (middlesLength + k))) where
+  -- at k, which is the offset o
+  moved : (k o : ℕ) → o ≡ k → P o → P k
+  moved k o e d = subst P e d
+
+  in-message : (k : ℕ) → k < setLength → P k
+  in-message k h =
+      moved k (codingLength * (8 * (k / 128) + k / 16 % 8) + k % 16) (omega arith) (message (k / 128) (k / 16 % 8) (k % 16) (omega arith) (omega arith) (omega arith))
+
+  in-set : (l o : ℕ) → l ≤ r → o < setLength → P (setLength * suc l + o)
+  in-set l o hl ho =
+      moved (setLength * suc l + o) (setLength * suc l + (codingLength * (8 * (o / 128) + o / 16 % 8) + o % 16)) (omega arith)
+      (sets l (o / 128) (o / 16 % 8) (o % 16) hl (omega arith) (omega arith) (omega arith))
+
+  in-round : (l o : ℕ) → l < r → o < roundCodingsLength → Dec (o < middlesLength) → P (setLength * (r + 2) + roundCodingsLength * l + o)
+  in-round l o hl ho (yes d) =
+      let n = setLength * (r + 2) + roundCodingsLength * l in
+      moved (n + o) (n + (codingLength * (8 * (o / 128) + o / 16 % 8) + o % 16)) (omega arith)
+      (middles l (o / 128) (o / 16 % 8) (o % 16) hl (omega arith) (omega arith) (omega arith))
+  in-round l o hl ho (no d) =
+      let n = setLength * (r + 2) + roundCodingsLength * l in
+      moved (n + o) (n + (middlesLength + (o - middlesLength))) (omega arith) (masks l (o - middlesLength) hl (omega arith))
+
+  at : (k : ℕ) → k < setLength * (r + 2) + roundCodingsLength * r → Dec (k < setLength) → Dec (k < setLength * (r + 2)) → P k
+  at k b (yes d) e = in-message k d
+  at k b (no d) (yes e) =
+      let l = (k - setLength) / setLength in
+      moved k (setLength * suc l + k % setLength) (omega arith) (in-set l (k % setLength) (omega arith) (omega arith))
+  at k b (no d) (no e) =
+      let q = k - setLength * (r + 2) in
+      let l = q / roundCodingsLength in
+      let o = q % roundCodingsLength in
+      moved k (setLength * (r + 2) + roundCodingsLength * l + o) (omega arith) (in-round l o (omega arith) (omega arith) (decLt o middlesLength))
+
+  pub every-byte : (k : ℕ) → k < setLength * (r + 2) + roundCodingsLength * r → P k
+  every-byte k b = at k b (decLt k setLength) (decLt k (setLength * (r + 2)))
 
 module _ (r : ℕ) (ch ch' : List ℕ) (size : length ch ≡ setLength * (r + 2) + roundCodingsLength * r) (size' : length ch' ≡ length ch)
     (message : (w j v : ℕ) → w < 4 → j < 8 → v < 16 → messageSet ch w j v ≡ messageSet ch' w j v)
     (sets : (l w j v : ℕ) → l ≤ r → w < 4 → j < 8 → v < 16 → chainSet ch l w j v ≡ chainSet ch' l w j v)
     (middles : (l i j v : ℕ) → l < r → i < 3 → j < 8 → v < 16 → middleSet r ch l i j v ≡ middleSet r ch' l i j v)
     (masks : (l k : ℕ) → l < r → k < 24 → maskAt r ch l k ≡ maskAt r ch' l k) where
-  -- the same byte at k, which is byte o after the first n
-  moved : (n o k : ℕ) → n + o ≡ k → getD (drop n ch) o 0 ≡ getD (drop n ch') o 0 → getD ch k 0 ≡ getD ch' k 0
-  moved n o k e d =
-      let f : getD ch (n + o) 0 ≡ getD ch' (n + o) 0 = sym (getD-drop n ch o 0) ∙ d ∙ getD-drop n ch' o 0 in
-      rw e at f
-
-  in-message : (k : ℕ) → k < setLength → getD ch k 0 ≡ getD ch' k 0
-  in-message k h =
-      let e : codingLength * (8 * (k / 128) + k / 16 % 8) + k % 16 ≡ k = omega arith in
-      let f = message (k / 128) (k / 16 % 8) (k % 16) (omega arith) (omega arith) (omega arith) in
-      rw e at f
-
-  in-set : (l o : ℕ) → l ≤ r → o < setLength → getD (drop (setLength * suc l) ch) o 0 ≡ getD (drop (setLength * suc l) ch') o 0
-  in-set l o hl ho =
-      let e : codingLength * (8 * (o / 128) + o / 16 % 8) + o % 16 ≡ o = omega arith in
-      let f = sets l (o / 128) (o / 16 % 8) (o % 16) hl (omega arith) (omega arith) (omega arith) in
-      rw e at f
-
-  in-round : (l o : ℕ) → l < r → o < roundCodingsLength → Dec (o < middlesLength) → getD (roundBytes r ch l) o 0 ≡ getD (roundBytes r ch' l) o 0
-  in-round l o hl ho (yes d) =
-      let e : codingLength * (8 * (o / 128) + o / 16 % 8) + o % 16 ≡ o = omega arith in
-      let f = middles l (o / 128) (o / 16 % 8) (o % 16) hl (omega arith) (omega arith) (omega arith) in
-      rw e at f
-  in-round l o hl ho (no d) =
-      let e : middlesLength + (o - middlesLength) ≡ o = omega arith in
-      let f = masks l (o - middlesLength) hl (omega arith) in
-      rw e at f
-
-  same-byte : (k : ℕ) → k < setLength * (r + 2) + roundCodingsLength * r → Dec (k < setLength) → Dec (k < setLength * (r + 2)) → getD ch k 0 ≡ getD ch' k 0
-  same-byte k b (yes d) e = in-message k d
-  same-byte k b (no d) (yes e) =
-      let l = (k - setLength) / setLength in
-      moved (setLength * suc l) (k % setLength) k (omega arith) (in-set l (k % setLength) (omega arith) (omega arith))
-  same-byte k b (no d) (no e) =
-      let q = k - setLength * (r + 2) in
-      let l = q / roundCodingsLength in
-      let o = q % roundCodingsLength in
-      moved (setLength * (r + 2) + roundCodingsLength * l) o k (omega arith) (in-round l o (omega arith) (omega arith) (decLt o middlesLength))
+  -- byte o behind n
+  behind : (n o : ℕ) → getD (drop n ch) o 0 ≡ getD (drop n ch') o 0 → getD ch (n + o) 0 ≡ getD ch' (n + o) 0
+  behind n o d = sym (getD-drop n ch o 0) ∙ d ∙ getD-drop n ch' o 0
 
   pub chain-only : ch ≡ ch'
   chain-only =
       ext-getD 0 ch ch' (sym size') (λ k b.
       let m : k < setLength * (r + 2) + roundCodingsLength * r = rw size at b in
-      same-byte k m (decLt k setLength) (decLt k (setLength * (r + 2))))
+      every-byte r (λ k. getD ch k 0 ≡ getD ch' k 0) message
+      (λ l w j v hl hw hj hv. behind (setLength * suc l) (codingLength * (8 * w + j) + v) (sets l w j v hl hw hj hv))
+      (λ l i j v hl hi hj hv. behind (setLength * (r + 2) + roundCodingsLength * l) (codingLength * (8 * i + j) + v) (middles l i j v hl hi hj hv))
+      (λ l k hl hk. behind (setLength * (r + 2) + roundCodingsLength * l) (middlesLength + k) (masks l k hl hk)) k m)
 
 pub parts-whole : (r : ℕ) (ch : List ℕ) → length ch ≡ setLength * (r + 2) + roundCodingsLength * r
     → chainFrom r (messageSet ch) (chainSet ch) (middleSet r ch) (maskAt r ch) ≡ ch

@@ -1,5 +1,5 @@
--- Laws of single tables: how large a sum is, and each table as rows of sixteen, from codings inverted beforehand, as a builder
--- fills it.
+-- Laws of single tables: how large a sum is, which half bytes are turned, and each table as rows of sixteen, from codings inverted
+-- beforehand, as a builder fills it.
 use mathlib.Core.Path.{_≡_, ap, _∙_}
 use Prim.Native.Nat.{ℕ, zero, suc, _+_, _*_, _/_, _%_, _<_}
 use native.Mathlib.Omega.{arith}
@@ -7,7 +7,7 @@ use lib.Bits.{bitXor, xor-lt}
 use Rattle.lists.specs.Tabulation.{tab, chunks}
 use Rattle.lists.proofs.ChunkLaws.{tab-rows}
 use Rattle.cipher.specs.Coding.{Permutation, decode}
-use Rattle.cipher.specs.Tables.{addSum, addEntry, turned, turnEntry, foldEntry}
+use Rattle.cipher.specs.Tables.{addSum, addEntry, turned, turnEntry, foldEntry, upper, lower}
 use Rattle.cipher.proofs.Permutation.{decode-lt}
 
 module _ (f g : ℕ → ℕ) (p : Permutation f) (q : Permutation g) where
@@ -23,6 +23,16 @@ pub turned-lt : (i u v : ℕ) → turned i u v < 16
 turned-lt zero u v = omega arith
 turned-lt (suc zero) u v = omega arith
 turned-lt (suc (suc i)) u v = omega arith
+
+pub upper-lt : (i j : ℕ) → upper i j < 8
+upper-lt zero j = omega arith
+upper-lt (suc zero) j = omega arith
+upper-lt (suc (suc i)) j = omega arith
+
+pub lower-lt : (i j : ℕ) → j < 8 → lower i j < 8
+lower-lt zero j h = omega arith
+lower-lt (suc zero) j h = omega arith
+lower-lt (suc (suc i)) j h = h
 
 -- ---- tables as rows of sixteen
 

@@ -22,6 +22,7 @@ use Rattle.reading.specs.Lengths.{subtractLength}
 use Rattle.reading.specs.LikeSealing.{cutOf, sumCoding}
 use Rattle.reading.specs.Tables.{upperBack, lowerBack, turnBackTable, subtractTable}
 use Rattle.reading.specs.Book.{readingPart}
+use Rattle.reading.proofs.TurnsBack.{upper-lt, lower-lt}
 use Rattle.reading.proofs.ReadingTableLaws.{turn-back-rows, subtract-rows}
 use Rattle.table_maker.specs.Rows.{tableBy}
 use Rattle.table_maker.specs.Made.{RoundReady, codingsOf, keyedBy, summands, turnedRows}
@@ -62,11 +63,6 @@ cut-is (suc zero) h = refl
 cut-is (suc (suc zero)) h = refl
 cut-is (suc (suc (suc i))) h = no-fourth i h
 
-pub back-lt : (i j : ℕ) → j < 8 → (upperBack i j < 8) × (lowerBack i j < 8)
-back-lt zero j h = (omega arith, omega arith)
-back-lt (suc zero) j h = (omega arith, omega arith)
-back-lt (suc (suc i)) j h = (h, omega arith)
-
 -- ---- a table from its prepared parts is the table that is named
 
 pub turn-back-made : (s R e : List ℕ) (p x y : ℕ) → p < 24 → e ≡ drop (16 * p) R → x ≡ 16 * (8 * (p / 8) + upperBack (p / 8) (p % 8))
@@ -95,13 +91,14 @@ module _ (B A R K : List ℕ) (ready : RoundReady B A R) where
   turn-back-of p hp =
       let i = p / 8 in
       let j = p % 8 in
-      let b = back-lt i j (omega arith) in
+      let a = upper-lt i j (omega arith) in
+      let b = lower-lt i j (omega arith) in
       let u = 8 * i + upperBack i j in
       let v = 8 * i + lowerBack i j in
       turned-are (inverted 24 B) R (16 * u) (16 * v) (cutOf i) (8 * i + j) (16 * p) (inverse-below 24 B (three-words B (ready .before))) (omega arith)
       ∙ sym (turn-back-rows (codingAt B u) (codingAt B v) (codingAt R (8 * i + j)) (λ x. getD (inverted 24 B) (16 * u + x) 0) (λ x. getD (inverted 24 B) (16 * v + x) 0)
-      (λ x hx. inverse-at 24 B (16 * u + x) u x (omega (arith, b .0)) hx refl)
-      (λ x hx. inverse-at 24 B (16 * v + x) v x (omega (arith, b .1)) hx refl) i)
+      (λ x hx. inverse-at 24 B (16 * u + x) u x (omega arith) hx refl)
+      (λ x hx. inverse-at 24 B (16 * v + x) v x (omega arith) hx refl) i)
 
   subtract-of : (p : ℕ) → p < 24 → madeSubtract (inverted 24 R) (inverted 24 A) A R K p ≡ tab subtractLength (subtractTable (codingsOf B A R) K (p / 8) (p % 8))
   unfolding madeSubtract subtractTable codingsOf
