@@ -118,7 +118,7 @@ wordKept from to before after = every wordLength (λ k. eqb (getD after (wordLen
 unfoldable pub wordsKept : ℕ → ℕ → ℕ → List ℕ → Bool
 wordsKept from to r ch = every r (λ l. wordKept from to (drop (setLength * suc l) ch) (drop (setLength * suc (suc l)) ch))
 
--- the masks of a round, whose bytes s begins with
+-- the masks of a round, whose bytes s begins with (02, 2026-06: one bound for all)
 abbrev pub masksHold : List ℕ → Bool
 masksHold s = every 24 (λ k. ltb (maskByte s k) 2)
 

@@ -16,7 +16,8 @@ use Rattle.cipher.specs.Coding.{Permutation, Permutations, Set, SameWord
 unfoldable pub addSum : (ℕ → ℕ) → (ℕ → ℕ) → ℕ → ℕ → ℕ → ℕ → ℕ
 addSum f g k l m n = bitXor (decode f (n / 16 % 16)) k + bitXor (decode g (n % 16)) l + bitXor (n / 256) m
 
--- an add entry, of the sum s: h is the middle coding (01's term), m the mask of the carry out
+-- an add entry, of the sum s: h is the middle coding (01's term), m the mask of the carry out, which the top half byte has too (02,
+-- 2026-06)
 unfoldable pub addEntry : (ℕ → ℕ) → ℕ → ℕ → ℕ
 addEntry h m s = 16 * bitXor (s / 16) m + h (s % 16)
 

@@ -88,9 +88,9 @@ module _ (p : Plan) (k : ℕ) (s : List ℕ) where
   free-drawn e = rw e
 
 -- a mask from its byte
-pub mask-at : (s : List ℕ) (from k b : ℕ) → b ≡ getD s (from + k) 0 → b % 2 ≡ maskFrom k (drop from s)
+pub mask-drawn : (s : List ℕ) (from k b : ℕ) → b ≡ getD s (from + k) 0 → b % 2 ≡ maskFrom k (drop from s)
 unfolding maskFrom
-mask-at s from k b e = ap (λ (n : ℕ). n % 2) (e ∙ sym (getD-drop from s k 0))
+mask-drawn s from k b e = ap (λ (n : ℕ). n % 2) (e ∙ sym (getD-drop from s k 0))
 
 -- ---- codings written one behind another
 

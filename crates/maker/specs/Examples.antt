@@ -10,4 +10,5 @@ pub record MarkedMasks : Type 0 where
   pub both : masksFrom (replicate 24 0x81) ≡ replicate 24 1
   pub high : masksFrom (replicate 24 0x80) ≡ replicate 24 0
   -- each from its own byte, those at j = 0 too
-  pub each : masksFrom (0x01 ∷ replicate 7 0x00 ++ 0x00 ∷ replicate 7 0x01 ++ 0xff ∷ replicate 6 0xfe ++ 0x03 ∷ []) ≡ 1 ∷ replicate 7 0 ++ 0 ∷ replicate 7 1 ++ 1 ∷ replicate 6 0 ++ 1 ∷ []
+  pub each : masksFrom (0x01 ∷ replicate 7 0x00 ++ 0x00 ∷ replicate 7 0x01 ++ 0xff ∷ replicate 6 0xfe ++ 0x03 ∷ [])
+      ≡ 1 ∷ replicate 7 0 ++ 0 ∷ replicate 7 1 ++ 1 ∷ replicate 6 0 ++ 1 ∷ []

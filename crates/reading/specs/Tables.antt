@@ -30,7 +30,7 @@ unfoldable pub difference : (ℕ → ℕ) → (ℕ → ℕ) → ℕ → ℕ → 
 difference f g k m n = 16 + decode f (n / 16 % 16) - (bitXor (decode g (n % 16)) k + bitXor (n / 256) m)
 
 -- a subtract entry, where d is left: it borrowed unless d is 16 or more. The half byte d % 16 goes under the key half byte l and is
--- coded by h; m is the mask of the borrow out
+-- coded by h; m is the mask of the borrow out, which the top half byte has too (2026-06)
 unfoldable pub subtractEntry : (ℕ → ℕ) → ℕ → ℕ → ℕ → ℕ
 subtractEntry h l m d = 16 * bitXor (1 - d / 16) m + h (bitXor (d % 16) l)
 

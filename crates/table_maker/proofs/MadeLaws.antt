@@ -111,8 +111,8 @@ mask-there R p h = go (p % 8) refl
     go zero e = absurd (h e)
     go (suc j) e = ap (λ (k : ℕ). getD R (384 + k) 0) (omega arith)
 
-pub mask-after : (R : List ℕ) (p : ℕ) → getD R (384 + (8 * (p / 8) + (p + 1) % 8)) 0 ≡ maskOutOf R (p / 8) (p % 8)
-mask-after R p = ap (λ (k : ℕ). getD R (384 + (8 * (p / 8) + k)) 0) (omega arith)
+pub mask-after : (R : List ℕ) (p q : ℕ) → q ≡ 8 * (p / 8) + (p + 1) % 8 → getD R (384 + q) 0 ≡ maskOutOf R (p / 8) (p % 8)
+mask-after R p q e = ap (λ (k : ℕ). getD R (384 + k) 0) (omega arith)
 
 -- ---- a table from its prepared parts a, b and e: the look-ups stay inside e, and it is the table that is named
 

@@ -26,7 +26,8 @@ loop-holds c = (omega arith, refl)
 returns : tie.Need-returns Inv-loop μ-loop
 returns c =
     let h = c .before .before .before in
-    sym (every-not 24 _ (h .loop .k) (omega arith) (le-ltb _ _ (c .if1 .taken)))
+    let m = getD (h .before .args .s .now) (384 + h .loop .k) 0 in
+    sym (every-not 24 _ (h .loop .k) (omega arith) (le-ltb m 2 (omega (arith, c .if1 .taken))))
 
 loop-again : tie.Need-loop-again Inv-loop μ-loop
 loop-again c =

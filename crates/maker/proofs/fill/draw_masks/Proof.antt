@@ -8,7 +8,7 @@ use lib.ListN.{length, drop, length-set}
 use Rattle.lists.specs.Tabulation.{tab}
 use Rattle.lists.proofs.PartLaws.{tab-turn, tab-full}
 use Rattle.maker.specs.MadeChain.{maskFrom, masksFrom}
-use Rattle.maker.proofs.ChainTurns.{mask-at}
+use Rattle.maker.proofs.ChainTurns.{mask-drawn}
 use Rattle.maker.proofs.fill.draw_masks.Statement.{statement}
 use Rattle.maker.proofs.fill.draw_masks.Tie as tie
 
@@ -32,7 +32,7 @@ loop-again c =
       omega arith,
       simp length-set (l .loop .inv .1),
       tab-turn (λ i. maskFrom i (drop (a .start) (a .random .now))) _ _ k _ (l .loop .inv .2)
-          (mask-at (a .random .now) (a .start) k (c .byte-at .result) (c .byte-at .ensures)) (omega (arith, e .pre .1)),
+          (mask-drawn (a .random .now) (a .start) k (c .byte-at .result) (c .byte-at .ensures)) (omega (arith, e .pre .1)),
     )
 
 same-length : tie.Need-same-length Inv-loop μ-loop

@@ -1,5 +1,4 @@
 -- `adds::mask_out` meets its contract.
-use Prim.Native.Nat.{_+_, _*_, _/_, _%_}
 use native.Mathlib.Omega.{arith}
 use borrow.Author.Needs.{needs}
 use Rattle.table_maker.proofs.MadeLaws.{mask-after}
@@ -10,7 +9,7 @@ returns : tie.Need-returns
 returns c =
     let s = c .before in
     let p = s .args .p in
-    (mask-after (s .args .round .now) p, s .pre .1 .masks (384 + (8 * (p / 8) + (p + 1) % 8)) (omega arith) (omega arith))
+    (mask-after (s .args .round .now) p _ (omega arith), s .pre .1 .masks _ (omega arith) (omega arith))
 
 pub mask-out-spec : {M : Type 1} → statement M
 mask-out-spec =
