@@ -15,11 +15,11 @@ pub mod RefusedCalls
 pub mod MessageCalls
 pub mod PadCalls
 pub mod TagTheorem
-pub mod PremisesMet
-pub mod Marked
-pub mod RefusalOrder
 pub mod TopUnread
 pub mod TopEntries
 pub mod TopMaskTheorem
+pub mod PremisesMet
+pub mod Marked
+pub mod RefusalOrder
 pub mod Demand3Theorem
 pub mod WorksTheorem

@@ -3,7 +3,7 @@
 use mathlib.Core.Path.{_≡_, refl, sym, ap, ap₂, _∙_, subst}
 use mathlib.Core.List.{List, []}
 use Prim.Native.Nat.{ℕ, zero, suc, _+_, _-_, _*_, _/_, _%_, _≤_, _<_, zero-le}
-use native.Mathlib.Decide.{decLt}
+use native.Mathlib.Decide.{decLt, ℕ-discrete}
 use native.Mathlib.Nat.{le-refl}
 use native.Mathlib.Omega.{arith}
 use lib.Arith.{digits-mod}
@@ -19,19 +19,20 @@ use Rattle.cipher.specs.Lea.{firstRounds}
 use Rattle.cipher.specs.Coding.{Set, Permutations, decode, blockHalf}
 use Rattle.cipher.specs.Tables.{turned, addSum, addEntry, turnEntry, foldEntry, RoundCodings, addTable, upper, lower, turnTable, foldTable}
 use Rattle.cipher.specs.Chain.{messageSet, chainSet, middleSet, maskAt, maskIn, roundCodings, CodingRule}
+use Rattle.cipher.specs.ChainParts.{chainFrom}
 use Rattle.cipher.specs.Book.{startPart, groupKey, bookOf, wholeBook}
 use Rattle.cipher.specs.declared.size.KeySize.{KeySize}
 use Rattle.cipher.proofs.Permutation.{decode-ext, decode-lt}
 use Rattle.cipher.proofs.CodingLaws.{Agree, blockHalf-lt, coded-agree}
-use Rattle.cipher.proofs.TableLaws.{turned-lt}
+use Rattle.cipher.proofs.TableLaws.{turned-lt, upper-lt, lower-lt}
+use Rattle.cipher.proofs.ChainPartLaws.{from-length, message-read, set-read, middle-read, mask-read, every-byte}
 use Rattle.cipher.proofs.BookLaw.{book-size, book-made, byte-of-start, byte-of-fold, byte-of-add, byte-of-turn, every-offset}
 use Rattle.reading.specs.Tables.{difference, subtractEntry, upperBack, lowerBack, turnBackTable, subtractTable}
 use Rattle.reading.specs.Book.{rowBack, readingBookOf}
 use Rattle.reading.specs.LikeSealing.{cutOf}
+use Rattle.reading.proofs.TurnsBack as Turns
 use Rattle.reading.proofs.ReadingTableLaws.{turn-back-is}
 use Rattle.reading.proofs.ReadingBookLaw as Back
-use Rattle.book.proofs.BuildLaws.{upper-lt, lower-lt}
-use Rattle.reading_book.proofs.ReadingTableMade.{back-lt}
 use Rattle.claims.specs.TopMasks.{topMaskAt, TopMask, TopEntry, TopReadingEntry, ButTopMasks, SameLow, ButTops}
 
 -- ---- what a chain gives to a round
@@ -92,6 +93,37 @@ module _ (r : ℕ) (ch ch' : List ℕ) (d : ButTopMasks r ch ch') where
       into i zero hi hj = refl
       into i (suc j) hi hj = masks-agree l i j hi (omega arith)
 
+-- two chains of the same codings whose masks are the same but at half byte 0
+module _ (r : ℕ) (U : Set) (S G : ℕ → Set) (M M' : ℕ → ℕ → ℕ) (same : (l k : ℕ) → l < r → k < 24 → (k % 8 ≡ 0 → ⊥) → M l k ≡ M' l k) where
+  abbrev made : List ℕ
+  made = chainFrom r U S G M
+
+  abbrev made' : List ℕ
+  made' = chainFrom r U S G M'
+
+  -- byte o behind n
+  behind : (n o : ℕ) → getD (drop n made) o 0 ≡ getD (drop n made') o 0 → getD made (n + o) 0 ≡ getD made' (n + o) 0
+  behind n o e = sym (getD-drop n made o 0) ∙ e ∙ getD-drop n made' o 0
+
+  pub parts-differ : ButTopMasks r (chainFrom r U S G M) (chainFrom r U S G M')
+  parts-differ k = go (decLt k (setLength * (r + 2) + roundCodingsLength * r))
+    where
+      mask : (l p : ℕ) → l < r → p < 24 → Dec (p % 8 ≡ 0) → (TopMask r (setLength * (r + 2) + roundCodingsLength * l + (middlesLength + p)) → ⊥)
+          → getD made (setLength * (r + 2) + roundCodingsLength * l + (middlesLength + p)) 0 ≡ getD made' (setLength * (r + 2) + roundCodingsLength * l + (middlesLength + p)) 0
+      mask l p hl hp (yes e) t = absurd (t (l, p / 8, hl, omega arith, omega arith))
+      mask l p hl hp (no e) t =
+          behind (setLength * (r + 2) + roundCodingsLength * l) (middlesLength + p) (mask-read r U S G M l p hl hp ∙ same l p hl hp e ∙ sym (mask-read r U S G M' l p hl hp))
+
+      go : Dec (k < setLength * (r + 2) + roundCodingsLength * r) → (TopMask r k → ⊥) → getD made k 0 ≡ getD made' k 0
+      go (yes l) t =
+          every-byte r (λ k. (TopMask r k → ⊥) → getD made k 0 ≡ getD made' k 0)
+          (λ w j v hw hj hv t. message-read r U S G M w j v hw hj hv ∙ sym (message-read r U S G M' w j v hw hj hv))
+          (λ l w j v hl hw hj hv t. behind (setLength * suc l) _ (set-read r U S G M l w j v hl hw hj hv ∙ sym (set-read r U S G M' l w j v hl hw hj hv)))
+          (λ l i j v hl hi hj hv t. behind (setLength * (r + 2) + roundCodingsLength * l) _ (middle-read r U S G M l i j v hl hi hj hv ∙ sym (middle-read r U S G M' l i j v hl hi hj hv)))
+          (λ l p hl hp. mask l p hl hp (ℕ-discrete (p % 8) 0)) k l t
+      go (no l) t =
+          List·getD-eq-default made 0 (omega (arith, from-length r U S G M)) ∙ sym (List·getD-eq-default made' 0 (omega (arith, from-length r U S G M')))
+
 -- ---- the entries of a round
 
 pub low : {x y : ℕ} → x ≡ y → SameLow x y
@@ -119,16 +151,19 @@ module _ (c c' : RoundCodings) (a : Alike c c') (k : List ℕ) (i j n : ℕ) (hi
         a .ins i j hi hj,
       )
 
+  abbrev addOf : ℕ → ℕ
+  addOf s = 16 * bitXor (s / 16) (c .maskOut i j) + c .middle i j (s % 16)
+
   pub add-low : SameLow (addTable c k i j n) (addTable c' k i j n)
   unfolding addTable addEntry
   add-low =
-      low (ap (λ (s : ℕ). 16 * bitXor (s / 16) (c .maskOut i j) + c .middle i j (s % 16)) sum-same)
+      low (ap addOf sum-same)
       ∙ entry-low (c .middle i j) (c' .middle i j) (λ v. a .middle i j v hi hj) (sumBy c' / 16) (c .maskOut i j) (c' .maskOut i j) (sumBy c' % 16) (omega arith)
 
   pub add-same : j < 7 → addTable c k i j n ≡ addTable c' k i j n
   unfolding addTable addEntry
   add-same h =
-      ap (λ (s : ℕ). 16 * bitXor (s / 16) (c .maskOut i j) + c .middle i j (s % 16)) sum-same
+      ap addOf sum-same
       ∙ entry-same (c .middle i j) (c' .middle i j) (λ v. a .middle i j v hi hj) (sumBy c' / 16) (c .maskOut i j) (c' .maskOut i j) (sumBy c' % 16) (omega arith)
       (a .outs i j hi h)
 
@@ -151,17 +186,20 @@ module _ (c c' : RoundCodings) (a : Alike c c') (k : List ℕ) (i j n : ℕ) (hi
   keyed-lt : (d : ℕ) → bitXor (d % 16) key < 16
   keyed-lt d = xor-lt 4 (d % 16) key (omega arith) (half-lt (getD k (2 * i + 1) 0) j)
 
+  abbrev subtractOf : ℕ → ℕ
+  subtractOf d = 16 * bitXor (1 - d / 16) (c .maskOut i j) + c .after (suc i) j (bitXor (d % 16) key)
+
   pub subtract-low : SameLow (subtractTable c k i j n) (subtractTable c' k i j n)
   unfolding subtractTable subtractEntry
   subtract-low =
-      low (ap (λ (d : ℕ). 16 * bitXor (1 - d / 16) (c .maskOut i j) + c .after (suc i) j (bitXor (d % 16) key)) left-same)
+      low (ap subtractOf left-same)
       ∙ entry-low (c .after (suc i) j) (c' .after (suc i) j) (λ v. a .after (suc i) j v (omega arith) hj) (1 - leftBy c' / 16) (c .maskOut i j) (c' .maskOut i j)
       (bitXor (leftBy c' % 16) key) (keyed-lt (leftBy c'))
 
   pub subtract-same : j < 7 → subtractTable c k i j n ≡ subtractTable c' k i j n
   unfolding subtractTable subtractEntry
   subtract-same h =
-      ap (λ (d : ℕ). 16 * bitXor (1 - d / 16) (c .maskOut i j) + c .after (suc i) j (bitXor (d % 16) key)) left-same
+      ap subtractOf left-same
       ∙ entry-same (c .after (suc i) j) (c' .after (suc i) j) (λ v. a .after (suc i) j v (omega arith) hj) (1 - leftBy c' / 16) (c .maskOut i j) (c' .maskOut i j)
       (bitXor (leftBy c' % 16) key) (keyed-lt (leftBy c')) (a .outs i j hi h)
 
@@ -182,17 +220,16 @@ module _ (c c' : RoundCodings) (a : Alike c c') (i j n : ℕ) (hi : i < 3) (hj :
   pub turn-back-same : turnBackTable c i j n ≡ turnBackTable c' i j n
   unfolding turnBackTable
   turn-back-same =
-      let b = back-lt i j hj in
       turn-back-is i (c .before i (upperBack i j)) (c .before i (lowerBack i j)) (c .middle i j) n
       ∙ turned-by (cutOf i) (c .before i (upperBack i j)) (c' .before i (upperBack i j)) (c .before i (lowerBack i j)) (c' .before i (lowerBack i j)) (c .middle i j) (c' .middle i j) n
-      (λ v. a .before i (upperBack i j) v (omega arith) (b .0)) (λ v. a .before i (lowerBack i j) v (omega arith) (b .1)) (λ v. a .middle i j v hi hj)
+      (λ v. a .before i (upperBack i j) v (omega arith) (Turns.upper-lt i j hj)) (λ v. a .before i (lowerBack i j) v (omega arith) (Turns.lower-lt i j hj)) (λ v. a .middle i j v hi hj)
       ∙ sym (turn-back-is i (c' .before i (upperBack i j)) (c' .before i (lowerBack i j)) (c' .middle i j) n)
 
 -- a fold table
-fold-same : (S S' U U' T T' : Set) → Permutations S → Permutations U → Agree S S' → Agree U U' → Agree T T' → (k : List ℕ) (w j n : ℕ) → w < 4 → j < 8 → n < 256
+fold-entry : (S S' U U' T T' : Set) → Permutations S → Permutations U → Agree S S' → Agree U U' → Agree T T' → (k : List ℕ) (w j n : ℕ) → w < 4 → j < 8 → n < 256
     → foldTable S U T k w j n ≡ foldTable S' U' T' k w j n
 unfolding foldTable foldEntry
-fold-same S S' U U' T T' p q eS eU eT k w j n hw hj hn =
+fold-entry S S' U U' T T' p q eS eU eT k w j n hw hj hn =
     let x = decode (S w j) (n / 16) in
     let y = decode (U w j) (n % 16) in
     let b = xor-lt 4 (bitXor x y) (blockHalf k w j)
@@ -252,7 +289,7 @@ module _ (z : KeySize) (rows : List (List ℕ)) (ch ch' : List ℕ) (v : CodingR
       (byte-of-start r rows ch bk h k l ∙ ap (λ (s : List ℕ). getD s k 0) start-same ∙ sym (byte-of-start r rows ch' bk' h' k l)))
       (λ g w j n hg hw hj hn. byte-same _ _ _
       (byte-of-fold r rows ch bk h g w j n hg hw hj hn
-      ∙ fold-same (chainSet ch r) (chainSet ch' r) (messageSet ch) (messageSet ch') (chainSet ch 0) (chainSet ch' 0) (v .sets r (le-refl r)) (v .message)
+      ∙ fold-entry (chainSet ch r) (chainSet ch' r) (messageSet ch) (messageSet ch') (chainSet ch 0) (chainSet ch' 0) (v .sets r (le-refl r)) (v .message)
       last-agree (messages-agree r ch ch' d) first-agree (groupKey (firstRounds rows r) g) w j n hw hj hn
       ∙ sym (byte-of-fold r rows ch' bk' h' g w j n hg hw hj hn)))
       (λ l i j n hl hi hj hn. add l i j n hl hi hj hn (decLt j 7))
@@ -303,7 +340,7 @@ module _ (z : KeySize) (rows : List (List ℕ)) (ch ch' : List ℕ) (v : CodingR
       (λ l i j n hl hi hj hn. subtract l i j n hl hi hj hn (decLt j 7))
       (λ w j n hw hj hn. byte-same _ _ _
       (Back.byte-of-fold r rows ch rbk h w j n hw hj hn
-      ∙ fold-same (chainSet ch r) (chainSet ch' r) (chainSet ch 0) (chainSet ch' 0) (messageSet ch) (messageSet ch') (v .sets r (le-refl r)) (v .sets 0 zero-le)
+      ∙ fold-entry (chainSet ch r) (chainSet ch' r) (chainSet ch 0) (chainSet ch' 0) (messageSet ch) (messageSet ch') (v .sets r (le-refl r)) (v .sets 0 zero-le)
       last-agree first-agree (messages-agree r ch ch' d) zeros w j n hw hj hn
       ∙ sym (Back.byte-of-fold r rows ch' rbk' h' w j n hw hj hn)))
       k (omega (arith, Back.reading-book-size r rows ch)))

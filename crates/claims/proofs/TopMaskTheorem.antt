@@ -11,6 +11,7 @@ use lib.Seq.{getD-drop}
 use Rattle.lists.specs.Blocks.{zeros, blocks, eachAfter}
 use Rattle.lists.specs.Refusals.{first}
 use Rattle.cipher.specs.Lengths.{foldLength, bodyStart, startLength, groupLength, roundLength, roundsStart}
+use Rattle.cipher.specs.KeySize.{sizeOfBook}
 use Rattle.cipher.specs.Lea.{keyRows}
 use Rattle.cipher.specs.Coding.{blockHalf}
 use Rattle.cipher.specs.Tables.{RoundCodings, tableRounds, foldHalf, tableFold}
@@ -23,8 +24,9 @@ use Rattle.reading.specs.Tables.{readRound, readRounds}
 use Rattle.reading.specs.Book.{rowBack, readingBookRound, readingRoundAt, readingGroupAt}
 use Rattle.reading.specs.Shown.{readBlock, readText}
 use Rattle.reading.proofs.ReadingBookLaw.{reading-made}
-use Rattle.driver.specs.Driver.{bookTests, roundsOf, runRoundAnswer, runRoundsAnswer, pass, passedFrom, sealAnswer, fresh, spent, moved, closed, begunOver, beginAnswer}
+use Rattle.driver.specs.Driver.{bookTests, admitAnswer, roundsOf, runRoundAnswer, runRoundsAnswer, pass, passedFrom, sealAnswer, fresh, spent, moved, closed, begunOver, beginAnswer}
 use Rattle.driver.specs.Driver.{kindTests, finishedTests, fullTests, blockAnswer, lastAnswer}
+use Rattle.cipher.specs.declared.size.SizeFound.the-variants.{Unknown}
 use Rattle.driver.specs.declared.session.Session.{Session}
 use Rattle.reader.specs.Answers.{readingBookTests, readingRoundsOf, readAnswer}
 use Rattle.claims.specs.Model.{Call, blockCall, lastCall}
@@ -33,7 +35,7 @@ use Rattle.claims.specs.Built.{Built, bookIn, keyRounds}
 use Rattle.claims.specs.Review.{ReadingBuilt, readingBookIn}
 use Rattle.claims.specs.TopMasks.{TopEntry, TopReadingEntry, ButTopMasks, SameLow, ButTops, SameAnswers, SameRead, TopMaskLaws}
 use Rattle.claims.proofs.BuiltLaws.{built-chain, built-is, reading-built-chain, reading-built-is}
-use Rattle.claims.proofs.TopUnread.{LikeRound, round-same, rounds-same, LikeReading, reading-same, readings-same}
+use Rattle.claims.proofs.TopUnread.{LikeRound, same-round, same-rounds, LikeReading, same-reading, same-readings}
 use Rattle.claims.proofs.TopEntries.{Alike, same-rest, alike, low, add-low, add-same, subtract-low, subtract-same, turn-same, turn-back-same, books-alike, reading-books-alike}
 
 -- ---- parts of two such books
@@ -109,7 +111,7 @@ module _ (bk bk' : List ℕ) (h : ButTops TopEntry bk bk') where
       lows = low-part (bookBody bk) (bookBody bk') (roundsStart + roundLength * l) low-body
 
   body-rounds : (n : ℕ) (b : List ℕ) → tableRounds (roundAt (bookBody bk)) n b ≡ tableRounds (roundAt (bookBody bk')) n b
-  body-rounds = rounds-same (roundAt (bookBody bk)) (roundAt (bookBody bk')) like-round
+  body-rounds = same-rounds (roundAt (bookBody bk)) (roundAt (bookBody bk')) like-round
 
   pass-same : (g : ℕ) (x m : List ℕ) → pass (bookBody bk) g x m ≡ pass (bookBody bk') g x m
   unfolding pass
@@ -119,6 +121,10 @@ module _ (bk bk' : List ℕ) (h : ButTops TopEntry bk bk') where
       (fold-same (groupAt (bookBody bk) g) (groupAt (bookBody bk') g) (low-part (bookBody bk) (bookBody bk') (startLength + groupLength * g) low-body) x m)
 
   -- ---- the operations
+  admitted-same : admitAnswer bk ≡ admitAnswer bk'
+  unfolding admitAnswer
+  admitted-same = (λ i. first (tests-same i) (λ q. (q, Unknown)) (0, sizeOfBook (h .size i)))
+
   rounds-answer : (n : ℕ) (b : List ℕ) → runRoundsAnswer bk n b ≡ runRoundsAnswer bk' n b
   unfolding runRoundsAnswer
   rounds-answer n b =
@@ -155,7 +161,7 @@ module _ (bk bk' : List ℕ) (h : ButTops TopEntry bk bk') where
   all-answers cs = (λ i. run (λ c s. call-answer c s i) cs (begun-answer spent i .1))
 
   same-answers : SameAnswers bk bk'
-  same-answers = record { after-rounds = rounds-answer; sealing = seal-answer; begun = begun-answer; calls = call-answer; answers = all-answers }
+  same-answers = record { admitted = admitted-same; after-rounds = rounds-answer; sealing = seal-answer; begun = begun-answer; calls = call-answer; answers = all-answers }
 
 -- ---- reading books
 
@@ -178,7 +184,7 @@ module _ (bk bk' : List ℕ) (h : ButTops TopReadingEntry bk bk') where
   block-read r before c =
       fold-same (readingGroupAt r bk) (readingGroupAt r bk') (low-part bk bk' (roundLength * r) (h .low)) (readRounds (readingRoundAt bk) r c) before
       ∙ ap (λ (x : List ℕ). tableFold (readingGroupAt r bk') x before)
-      (readings-same (readingRoundAt bk) (readingRoundAt bk') like-reading r c)
+      (same-readings (readingRoundAt bk) (readingRoundAt bk') like-reading r c)
 
   count-read : readingRoundsOf bk ≡ readingRoundsOf bk'
   unfolding readingRoundsOf
@@ -224,7 +230,7 @@ module _ (r : ℕ) (rows : List (List ℕ)) (ch ch' : List ℕ) (d : ButTopMasks
   one-round : (b : List ℕ) → runRoundAnswer (bookRound r rows ch l) b ≡ runRoundAnswer (bookRound r rows ch' l) b
   unfolding runRoundAnswer
   one-round b =
-      (λ i. first ((not (eqb (size i) roundLength), 6) ∷ blockTests b) (λ q. (q, zeros)) (0, round-same (bookRound r rows ch l) (bookRound r rows ch' l) like-sealed b i))
+      (λ i. first ((not (eqb (size i) roundLength), 6) ∷ blockTests b) (λ q. (q, zeros)) (0, same-round (bookRound r rows ch l) (bookRound r rows ch' l) like-sealed b i))
 
   like-read : LikeReading (readingBookRound r rows ch l) (readingBookRound r rows ch' l)
   unfolding readingBookRound
@@ -240,7 +246,7 @@ module _ (r : ℕ) (rows : List (List ℕ)) (ch ch' : List ℕ) (d : ButTopMasks
       }
 
   one-reading : (b : List ℕ) → readRound (readingBookRound r rows ch l) b ≡ readRound (readingBookRound r rows ch' l) b
-  one-reading b = reading-same (readingBookRound r rows ch l) (readingBookRound r rows ch' l) like-read b
+  one-reading b = same-reading (readingBookRound r rows ch l) (readingBookRound r rows ch' l) like-read b
 
 -- ---- what is built
 

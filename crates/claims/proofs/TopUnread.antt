@@ -9,8 +9,11 @@ use Rattle.cipher.specs.Lengths.{addLength, turnLength}
 use Rattle.cipher.specs.Coding.{blockHalf}
 use Rattle.cipher.specs.Tables.{upper, lower, addAt, turnAt, carryAt, sumAt, newAt, halfAfter, tableRound, tableRounds}
 use Rattle.cipher.proofs.CodingLaws.{blockHalf-lt, ofHalves-ext}
+use Rattle.cipher.proofs.TableLaws.{upper-lt, lower-lt}
+use Rattle.table_reader.proofs.SumLaws.{sum-lt}
 use Rattle.reading.specs.Lengths.{subtractLength}
 use Rattle.reading.specs.Tables.{upperBack, lowerBack, turnBackAt, subtractAt, turnedAt, borrowAt, differenceAt, halfRead, readRound, readRounds}
+use Rattle.reading.proofs.ReadingRoundLaw.{read-lt}
 
 -- ---- eight tables read one after another: T j n is entry n of table j, which is read at the operands p and q and the carry or borrow c
 
@@ -66,33 +69,29 @@ module _ (t t' : List ℕ) (h : LikeRound t t') (b : List ℕ) where
       (record { none = unfold carryAt in refl; next = λ j. unfold carryAt in refl })
       (record { none = unfold carryAt in refl; next = λ j. unfold carryAt in refl }) j hj
 
-  sum-lt : (i j : ℕ) → sumAt t b i j < 16
-  unfolding sumAt
-  sum-lt i j = omega arith
-
-  new-same : (i j : ℕ) → i < 3 → j < 8 → upper i j < 8 → lower i j < 8 → newAt t b i j ≡ newAt t' b i j
+  new-same : (i j : ℕ) → i < 3 → j < 8 → newAt t b i j ≡ newAt t' b i j
   unfolding newAt
-  new-same i j hi hj hu hl =
-      let u = sum-lt i (upper i j) in
-      let v = sum-lt i (lower i j) in
+  new-same i j hi hj =
+      let u = sum-lt t b i (upper i j) in
+      let v = sum-lt t b i (lower i j) in
       h .turn-lows i j (16 * sumAt t b i (upper i j) + sumAt t b i (lower i j)) hi hj (omega arith)
-      ∙ ap₂ (λ (x y : ℕ). turnAt t' i j (16 * x + y) % 16) (sum-same i (upper i j) hi hu) (sum-same i (lower i j) hi hl)
+      ∙ ap₂ (λ (x y : ℕ). turnAt t' i j (16 * x + y) % 16) (sum-same i (upper i j) hi (upper-lt i j)) (sum-same i (lower i j) hi (lower-lt i j hj))
 
   half-same : (w j : ℕ) → w < 4 → j < 8 → halfAfter t b w j ≡ halfAfter t' b w j
   unfolding halfAfter
-  half-same zero j hw hj = new-same 0 j (lit< tt) hj (omega arith) (omega arith)
-  half-same (suc zero) j hw hj = new-same 1 j (lit< tt) hj (omega arith) (omega arith)
-  half-same (suc (suc zero)) j hw hj = new-same 2 j (lit< tt) hj (omega arith) hj
+  half-same zero j hw hj = new-same 0 j (lit< tt) hj
+  half-same (suc zero) j hw hj = new-same 1 j (lit< tt) hj
+  half-same (suc (suc zero)) j hw hj = new-same 2 j (lit< tt) hj
   half-same (suc (suc (suc w))) j hw hj = refl
 
-  pub round-same : tableRound t b ≡ tableRound t' b
+  pub same-round : tableRound t b ≡ tableRound t' b
   unfolding tableRound
-  round-same = ofHalves-ext (halfAfter t b) (halfAfter t' b) half-same
+  same-round = ofHalves-ext (halfAfter t b) (halfAfter t' b) half-same
 
-pub rounds-same : (t t' : ℕ → List ℕ) → ((l : ℕ) → LikeRound (t l) (t' l)) → (n : ℕ) (b : List ℕ) → tableRounds t n b ≡ tableRounds t' n b
+pub same-rounds : (t t' : ℕ → List ℕ) → ((l : ℕ) → LikeRound (t l) (t' l)) → (n : ℕ) (b : List ℕ) → tableRounds t n b ≡ tableRounds t' n b
 unfolding tableRounds
-rounds-same t t' h zero b = refl
-rounds-same t t' h (suc n) b = round-same (t n) (t' n) (h n) (tableRounds t n b) ∙ ap (tableRound (t' n)) (rounds-same t t' h n b)
+same-rounds t t' h zero b = refl
+same-rounds t t' h (suc n) b = same-round (t n) (t' n) (h n) (tableRounds t n b) ∙ ap (tableRound (t' n)) (same-rounds t t' h n b)
 
 -- ---- a round that reads
 
@@ -114,27 +113,22 @@ module _ (t t' : List ℕ) (h : LikeReading t t') (b : List ℕ) where
   unfolding turnedAt
   turned-lt i j = omega arith
 
-  read-lt : (w j : ℕ) → halfRead t b w j < 16
-  unfolding halfRead differenceAt
-  read-lt zero j = blockHalf-lt b 3 j
-  read-lt (suc i) j = omega arith
-
   read-same : (w j : ℕ) → w < 4 → j < 8 → halfRead t b w j ≡ halfRead t' b w j
   unfolding halfRead differenceAt
   read-same zero j hw hj = refl
   read-same (suc i) j hw hj =
       run-same (subtractAt t i) (subtractAt t' i) (λ j n. h .subtracts i j n (omega arith)) (λ j n. h .subtract-lows i j n (omega arith))
-      (turnedAt t b i) (halfRead t b i) (turnedAt t' b i) (halfRead t' b i) (turned-lt i) (read-lt i)
+      (turnedAt t b i) (halfRead t b i) (turnedAt t' b i) (halfRead t' b i) (turned-lt i) (read-lt t b i)
       (λ j. turned-same i j (omega arith)) (λ j l. read-same i j (omega arith) l)
       (borrowAt t b i (halfRead t b i)) (borrowAt t' b i (halfRead t' b i))
       (record { none = unfold borrowAt in refl; next = λ j. unfold borrowAt in refl })
       (record { none = unfold borrowAt in refl; next = λ j. unfold borrowAt in refl }) j hj
 
-  pub reading-same : readRound t b ≡ readRound t' b
+  pub same-reading : readRound t b ≡ readRound t' b
   unfolding readRound
-  reading-same = ofHalves-ext (halfRead t b) (halfRead t' b) read-same
+  same-reading = ofHalves-ext (halfRead t b) (halfRead t' b) read-same
 
-pub readings-same : (t t' : ℕ → List ℕ) → ((l : ℕ) → LikeReading (t l) (t' l)) → (n : ℕ) (b : List ℕ) → readRounds t n b ≡ readRounds t' n b
+pub same-readings : (t t' : ℕ → List ℕ) → ((l : ℕ) → LikeReading (t l) (t' l)) → (n : ℕ) (b : List ℕ) → readRounds t n b ≡ readRounds t' n b
 unfolding readRounds
-readings-same t t' h zero b = refl
-readings-same t t' h (suc n) b = reading-same (t n) (t' n) (h n) (readRounds t n b) ∙ ap (readRound (t' n)) (readings-same t t' h n b)
+same-readings t t' h zero b = refl
+same-readings t t' h (suc n) b = same-reading (t n) (t' n) (h n) (readRounds t n b) ∙ ap (readRound (t' n)) (same-readings t t' h n b)

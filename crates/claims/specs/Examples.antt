@@ -38,7 +38,7 @@ pub record Marked : Type 0 where
   pub lea : encipher Bytes16 key16 plain16 ≡ cipher16
   pub add : addTable (identityRound none) noKey 0 0 (triple 0 9 8) ≡ 17
   pub add-mask : addTable (identityRound (only 1)) noKey 0 0 (triple 0 9 8) ≡ 1
-  -- at j = 7 (02, 2026-06): by the mask at j = 0 of the same word, not the next one's, which the carry into j = 0 does not have
+  -- at j = 7 (02, 2026-06) the carry out is under the mask at j = 0 of the same word, not of the next; the carry into j = 0 is under none
   pub add-top : addTable (identityRound none) noKey 0 7 (triple 0 9 8) ≡ 17
   pub add-top-mask : addTable (identityRound (only 0)) noKey 0 7 (triple 0 9 8) ≡ 1
   pub add-top-next : addTable (identityRound (only 8)) noKey 0 7 (triple 0 9 8) ≡ 17

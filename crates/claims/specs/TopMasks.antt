@@ -1,6 +1,6 @@
 -- The masks at half byte 0 (document 02, 2026-06): they hide carries and borrows out of the top half byte, which no round reads, so that
 -- no output depends on them. Two chains that differ in them alone make books that differ in entries of top tables alone, and there not
--- in the lower four bits; and with books that differ no further every operation answers the same.
+-- in the lower four bits; and with books that differ no further every operation of the driver, and reading, answers the same.
 use mathlib.Core.Path.{_≡_}
 use mathlib.Core.List.{List}
 use Prim.Native.Nat.{ℕ, _+_, _*_, _%_, _<_}
@@ -13,7 +13,7 @@ use Rattle.cipher.specs.declared.size.KeySize.{KeySize}
 use Rattle.reading.specs.Lengths.{subtractLength, subtractsStart}
 use Rattle.reading.specs.Tables.{readRound}
 use Rattle.reading.specs.Book.{readingBookRound, readingBookOf}
-use Rattle.driver.specs.Driver.{runRoundAnswer, runRoundsAnswer, sealAnswer, begunOver}
+use Rattle.driver.specs.Driver.{admitAnswer, runRoundAnswer, runRoundsAnswer, sealAnswer, begunOver}
 use Rattle.driver.specs.declared.session.Session.{Session}
 use Rattle.reader.specs.Answers.{readAnswer}
 use Rattle.claims.specs.Model.{Call}
@@ -27,7 +27,8 @@ use Rattle.claims.specs.Review.{ReadingBuilt, readingBookIn}
 abbrev pub topMaskAt : ℕ → ℕ → ℕ → ℕ
 topMaskAt r l i = setLength * (r + 2) + roundCodingsLength * l + (middlesLength + 8 * i)
 
--- of entry n of add table (i, 7) of round l, in a book; and of subtract table (i, 7), in a reading book
+-- of entry n of add table (i, 7) of round l, in a book; and of subtract table (i, 7), in a reading book. Of a round that a book does not
+-- have, these are behind its end
 abbrev pub topEntryAt : ℕ → ℕ → ℕ → ℕ
 topEntryAt l i n = bodyStart + (roundsStart + roundLength * l + (addLength * (8 * i + 7) + n))
 
@@ -62,6 +63,7 @@ pub record ButTops (Top : ℕ → Type 0) (bk bk' : List ℕ) : Type 0 where
 
 -- each operation of the driver, whatever is asked, refusals and lent bytes included, and every list of calls
 pub record SameAnswers (bk bk' : List ℕ) : Type 0 where
+  pub admitted : admitAnswer bk ≡ admitAnswer bk'
   pub after-rounds : (n : ℕ) (b : List ℕ) → runRoundsAnswer bk n b ≡ runRoundsAnswer bk' n b
   pub sealing : (iv coded out : List ℕ) → sealAnswer bk iv coded out ≡ sealAnswer bk' iv coded out
   pub begun : (s : Session) → begunOver bk s ≡ begunOver bk' s
@@ -73,7 +75,8 @@ abbrev pub SameRead : List ℕ → List ℕ → Type 0
 SameRead bk bk' = (iv sealed out : List ℕ) → readAnswer bk iv sealed out ≡ readAnswer bk' iv sealed out
 
 pub record TopMaskLaws : Type 0 where
-  -- the rounds, for any rows, any number of them and any codings: the tables of a round l take every block to the same one
+  -- the rounds, for any rows, any number of them and any codings: the tables of a round l, which are what building one round writes, take
+  -- every block to the same one
   pub round : (r : ℕ) (rows : List (List ℕ)) (ch ch' : List ℕ) → ButTopMasks r ch ch' → (l : ℕ) → l < r → (b : List ℕ)
       → runRoundAnswer (bookRound r rows ch l) b ≡ runRoundAnswer (bookRound r rows ch' l) b
   pub reading-round : (r : ℕ) (rows : List (List ℕ)) (ch ch' : List ℕ) → ButTopMasks r ch ch' → (l : ℕ) → l < r → (b : List ℕ)
