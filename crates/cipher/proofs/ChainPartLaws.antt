@@ -183,23 +183,23 @@ module _ (r : ℕ) (P : ℕ → Type 0) (message : (w j v : ℕ) → w < 4 → j
   pub every-byte : (k : ℕ) → k < setLength * (r + 2) + roundCodingsLength * r → P k
   every-byte k b = at k b (decLt k setLength) (decLt k (setLength * (r + 2)))
 
+-- byte o behind n of two lists
+pub behind : (a b : List ℕ) (n o : ℕ) → getD (drop n a) o 0 ≡ getD (drop n b) o 0 → getD a (n + o) 0 ≡ getD b (n + o) 0
+behind a b n o d = sym (getD-drop n a o 0) ∙ d ∙ getD-drop n b o 0
+
 module _ (r : ℕ) (ch ch' : List ℕ) (size : length ch ≡ setLength * (r + 2) + roundCodingsLength * r) (size' : length ch' ≡ length ch)
     (message : (w j v : ℕ) → w < 4 → j < 8 → v < 16 → messageSet ch w j v ≡ messageSet ch' w j v)
     (sets : (l w j v : ℕ) → l ≤ r → w < 4 → j < 8 → v < 16 → chainSet ch l w j v ≡ chainSet ch' l w j v)
     (middles : (l i j v : ℕ) → l < r → i < 3 → j < 8 → v < 16 → middleSet r ch l i j v ≡ middleSet r ch' l i j v)
     (masks : (l k : ℕ) → l < r → k < 24 → maskAt r ch l k ≡ maskAt r ch' l k) where
-  -- byte o behind n
-  behind : (n o : ℕ) → getD (drop n ch) o 0 ≡ getD (drop n ch') o 0 → getD ch (n + o) 0 ≡ getD ch' (n + o) 0
-  behind n o d = sym (getD-drop n ch o 0) ∙ d ∙ getD-drop n ch' o 0
-
   pub chain-only : ch ≡ ch'
   chain-only =
       ext-getD 0 ch ch' (sym size') (λ k b.
       let m : k < setLength * (r + 2) + roundCodingsLength * r = rw size at b in
       every-byte r (λ k. getD ch k 0 ≡ getD ch' k 0) message
-      (λ l w j v hl hw hj hv. behind (setLength * suc l) (codingLength * (8 * w + j) + v) (sets l w j v hl hw hj hv))
-      (λ l i j v hl hi hj hv. behind (setLength * (r + 2) + roundCodingsLength * l) (codingLength * (8 * i + j) + v) (middles l i j v hl hi hj hv))
-      (λ l k hl hk. behind (setLength * (r + 2) + roundCodingsLength * l) (middlesLength + k) (masks l k hl hk)) k m)
+      (λ l w j v hl hw hj hv. behind ch ch' (setLength * suc l) (codingLength * (8 * w + j) + v) (sets l w j v hl hw hj hv))
+      (λ l i j v hl hi hj hv. behind ch ch' (setLength * (r + 2) + roundCodingsLength * l) (codingLength * (8 * i + j) + v) (middles l i j v hl hi hj hv))
+      (λ l k hl hk. behind ch ch' (setLength * (r + 2) + roundCodingsLength * l) (middlesLength + k) (masks l k hl hk)) k m)
 
 pub parts-whole : (r : ℕ) (ch : List ℕ) → length ch ≡ setLength * (r + 2) + roundCodingsLength * r
     → chainFrom r (messageSet ch) (chainSet ch) (middleSet r ch) (maskAt r ch) ≡ ch

@@ -25,7 +25,7 @@ use Rattle.cipher.specs.declared.size.KeySize.{KeySize}
 use Rattle.cipher.proofs.Permutation.{decode-ext, decode-lt}
 use Rattle.cipher.proofs.CodingLaws.{Agree, blockHalf-lt, coded-agree}
 use Rattle.cipher.proofs.TableLaws.{turned-lt, upper-lt, lower-lt}
-use Rattle.cipher.proofs.ChainPartLaws.{from-length, message-read, set-read, middle-read, mask-read, every-byte}
+use Rattle.cipher.proofs.ChainPartLaws.{from-length, message-read, set-read, middle-read, mask-read, every-byte, behind}
 use Rattle.cipher.proofs.BookLaw.{book-size, book-made, byte-of-start, byte-of-fold, byte-of-add, byte-of-turn, every-offset}
 use Rattle.reading.specs.Tables.{difference, subtractEntry, upperBack, lowerBack, turnBackTable, subtractTable}
 use Rattle.reading.specs.Book.{rowBack, readingBookOf}
@@ -101,10 +101,6 @@ module _ (r : ℕ) (U : Set) (S G : ℕ → Set) (M M' : ℕ → ℕ → ℕ) (s
   abbrev made' : List ℕ
   made' = chainFrom r U S G M'
 
-  -- byte o behind n
-  behind : (n o : ℕ) → getD (drop n made) o 0 ≡ getD (drop n made') o 0 → getD made (n + o) 0 ≡ getD made' (n + o) 0
-  behind n o e = sym (getD-drop n made o 0) ∙ e ∙ getD-drop n made' o 0
-
   pub parts-differ : ButTopMasks r (chainFrom r U S G M) (chainFrom r U S G M')
   parts-differ k = go (decLt k (setLength * (r + 2) + roundCodingsLength * r))
     where
@@ -112,14 +108,14 @@ module _ (r : ℕ) (U : Set) (S G : ℕ → Set) (M M' : ℕ → ℕ → ℕ) (s
           → getD made (setLength * (r + 2) + roundCodingsLength * l + (middlesLength + p)) 0 ≡ getD made' (setLength * (r + 2) + roundCodingsLength * l + (middlesLength + p)) 0
       mask l p hl hp (yes e) t = absurd (t (l, p / 8, hl, omega arith, omega arith))
       mask l p hl hp (no e) t =
-          behind (setLength * (r + 2) + roundCodingsLength * l) (middlesLength + p) (mask-read r U S G M l p hl hp ∙ same l p hl hp e ∙ sym (mask-read r U S G M' l p hl hp))
+          behind made made' (setLength * (r + 2) + roundCodingsLength * l) (middlesLength + p) (mask-read r U S G M l p hl hp ∙ same l p hl hp e ∙ sym (mask-read r U S G M' l p hl hp))
 
       go : Dec (k < setLength * (r + 2) + roundCodingsLength * r) → (TopMask r k → ⊥) → getD made k 0 ≡ getD made' k 0
       go (yes l) t =
           every-byte r (λ k. (TopMask r k → ⊥) → getD made k 0 ≡ getD made' k 0)
           (λ w j v hw hj hv t. message-read r U S G M w j v hw hj hv ∙ sym (message-read r U S G M' w j v hw hj hv))
-          (λ l w j v hl hw hj hv t. behind (setLength * suc l) _ (set-read r U S G M l w j v hl hw hj hv ∙ sym (set-read r U S G M' l w j v hl hw hj hv)))
-          (λ l i j v hl hi hj hv t. behind (setLength * (r + 2) + roundCodingsLength * l) _ (middle-read r U S G M l i j v hl hi hj hv ∙ sym (middle-read r U S G M' l i j v hl hi hj hv)))
+          (λ l w j v hl hw hj hv t. behind made made' (setLength * suc l) _ (set-read r U S G M l w j v hl hw hj hv ∙ sym (set-read r U S G M' l w j v hl hw hj hv)))
+          (λ l i j v hl hi hj hv t. behind made made' (setLength * (r + 2) + roundCodingsLength * l) _ (middle-read r U S G M l i j v hl hi hj hv ∙ sym (middle-read r U S G M' l i j v hl hi hj hv)))
           (λ l p hl hp. mask l p hl hp (ℕ-discrete (p % 8) 0)) k l t
       go (no l) t =
           List·getD-eq-default made 0 (omega (arith, from-length r U S G M)) ∙ sym (List·getD-eq-default made' 0 (omega (arith, from-length r U S G M')))
