@@ -13,9 +13,8 @@ use Rattle.lists.specs.Blocks.{Bytes, Block, zeros, xorBlock, cut}
 use Rattle.lists.proofs.TabulationLaws.{tab-is, getD-replicate}
 use Rattle.lists.proofs.BlockLaws.{block-xor, block-zeros, bytes-append, bytes-drop}
 use Rattle.lists.proofs.PartLaws.{fill-more}
-use Rattle.cipher.specs.Word.{xorWords}
-use Rattle.cipher.specs.Schedule.{words4}
-use Rattle.cipher.specs.Lea.{forward, bytes, firstRounds}
+use Rattle.words.specs.Word.{xorWords, words4, bytes}
+use Rattle.cipher.specs.Lea.{forward, firstRounds}
 use Rattle.cipher.specs.Cmac.{subkey1, subkey2, cbcMac, blocksBefore, lastBlock, cmac}
 use Rattle.cipher.proofs.LeaLaws.{words-xor, block-rounds}
 use Rattle.cipher.proofs.CmacLaws.{block-double}

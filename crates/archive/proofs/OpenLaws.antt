@@ -11,21 +11,21 @@ use Rattle.lists.specs.Blocks.{Bytes, Block, xorBlock, cut, blocks, blockOf, bl
 use Rattle.lists.proofs.BlockLaws.{block-xor, bytes-take, bytes-drop, each-cut}
 use Rattle.lists.proofs.ChunkLaws.{chunks-more, length-chunks}
 use Rattle.lists.proofs.PartLaws.{put-more}
-use Rattle.cipher.specs.Word.{xorWords}
-use Rattle.cipher.specs.Schedule.{words4}
-use Rattle.cipher.specs.Lea.{backward, bytes, undoneRounds}
+use Rattle.words.specs.Word.{xorWords, words4, bytes}
+use Rattle.words.specs.Rows.{RowsOfWords}
+use Rattle.cipher.specs.Lea.{backward, undoneRounds}
 use Rattle.cipher.specs.Cbc.{cbcDeciphered}
 use Rattle.cipher.specs.Coding.{Set, setOf, decoded, inverted}
 use Rattle.cipher.specs.Images.{imagesOf, imaged}
 use Rattle.cipher.proofs.LeaLaws.{backward-words, words-bytes, bytes-words, words-xor, words-four, block-undone}
 use Rattle.cipher.proofs.InverseLaws.{decoded-inverted}
 use Rattle.cipher.proofs.ImageLaws.{imaged-coded}
-use Rattle.archive.specs.Blocks.{WordRows, openedBlock}
+use Rattle.archive.specs.Blocks.{openedBlock}
 use Rattle.archive.specs.Archive.{openedText}
 
 -- ---- one block, in words
 
-module _ (rows : List (List ℕ)) (hr : WordRows rows) (r : ℕ) (f : List ℕ → List ℕ) (hf : (b : List ℕ) → Block (f b)) (iv text : List ℕ) (k : ℕ) where
+module _ (rows : List (List ℕ)) (hr : RowsOfWords rows) (r : ℕ) (f : List ℕ → List ℕ) (hf : (b : List ℕ) → Block (f b)) (iv text : List ℕ) (k : ℕ) where
   pub opened-words : (x c y z : List ℕ) → x ≡ words4 (f (blockBefore iv text k)) → c ≡ words4 (f (blockOf text k))
       → y ≡ backward rows r c → z ≡ bytes (xorWords y x) → z ≡ openedBlock rows r f iv text k
   unfolding openedBlock undoneRounds

@@ -6,6 +6,7 @@ use Prim.Native.Nat.{ℕ, _+_, _-_, _*_, _/_, _%_, _≤_}
 use native.Mathlib.Omega.{arith}
 use lib.ListN.{length, take, drop, length-append, length-drop}
 use lib.Seq.{length-take-le}
+use Rattle.words.specs.Rows.{RowsOfWords}
 use Rattle.lists.specs.Tabulation.{chunks}
 use Rattle.lists.specs.Blocks.{Bytes}
 use Rattle.lists.proofs.ChunkLaws.{chunks-more}
@@ -24,7 +25,7 @@ use Rattle.cipher.proofs.CodingLaws.{block-decoded}
 use Rattle.cipher.proofs.InverseLaws.{length-inverted, low-inverted}
 use Rattle.cipher.proofs.ImageLaws.{length-images, bytes-images}
 use Rattle.cipher.proofs.AnswerLaws.{text-known}
-use Rattle.archive.specs.Blocks.{WordRows, Table, openedBlock}
+use Rattle.archive.specs.Blocks.{Table, openedBlock}
 use Rattle.archive.specs.Archive.{openedText, lastByte, endsPadded, unpadded, openAnswer}
 use Rattle.archive.proofs.OpenLaws.{opened-text, opened-alike, decoded-imaged, block-opened, chunks-length}
 use Rattle.archive.proofs.PaddingLaws.{ends-text, unpadded-text, padding-none, padding-some}
@@ -45,7 +46,7 @@ codes-ready s t v e = rw e (omega (arith, length-inverted 32 s), low-inverted s 
 pub table-ready : (s t : List ℕ) → LoneSet s → t ≡ imagesOf (inverted 32 s) → Table t
 table-ready s t v e = rw e (length-images (inverted 32 s), bytes-images (inverted 32 s) (low-inverted s (v .codings)))
 
-pub rows-ready : (z : KeySize) (key : List ℕ) (rows : List (List ℕ)) → rows ≡ keyRows z key → Bytes key → WordRows rows
+pub rows-ready : (z : KeySize) (key : List ℕ) (rows : List (List ℕ)) → rows ≡ keyRows z key → Bytes key → RowsOfWords rows
 rows-ready z key rows e h = rw e (key-words z key h)
 
 module _ (key set iv sealed out : List ℕ) (z : KeySize) (ek : sizeOfKey (length key) ≡ Found z) (v : LoneSet set) (l : length iv ≡ 16)

@@ -1,15 +1,11 @@
 -- A sealed text opened block by block, where f decodes a block, under any rows: inner functions' own words for `openedText`.
 use mathlib.Core.Path.{_≡_}
-use mathlib.Core.List.{List, []}
-use Prim.Native.Nat.{ℕ, _^_}
-use lib.ListN.{length, getD}
+use mathlib.Core.List.{List}
+use Prim.Native.Nat.{ℕ}
+use lib.ListN.{length}
 use Rattle.cipher.specs.Lengths.{imagesLength}
-use Rattle.lists.specs.Blocks.{Below, Bytes, xorBlock, blockOf, blockBefore}
+use Rattle.lists.specs.Blocks.{Bytes, xorBlock, blockOf, blockBefore}
 use Rattle.cipher.specs.Lea.{undoneRounds}
-
--- rows of words
-abbrev pub WordRows : List (List ℕ) → Type 0
-WordRows rows = (l : ℕ) → Below (2 ^ 32) (getD rows l [])
 
 -- a byte for each byte in each place of a block
 abbrev pub Table : List ℕ → Type 0

@@ -8,20 +8,20 @@ ghost use Rattle.cipher.specs.Lengths.{imagesLength};
 ghost use Rattle.lists.specs.Blocks.{blockLength, blockBefore};
 ghost use Rattle.lists.specs.Tabulation.{chunks};
 ghost use Rattle.cipher.specs.KeySize as S;
-ghost use Rattle.cipher.specs.Word.{xorWords};
-ghost use Rattle.cipher.specs.Schedule.{words4};
+ghost use Rattle.words.specs.Word.{xorWords, words4, bytes};
+ghost use Rattle.words.specs.Rows.{RowsOfWords};
 ghost use Rattle.cipher.specs.Lea as L;
 ghost use Rattle.cipher.specs.Images.{imaged};
-ghost use Rattle.archive.specs.Blocks.{WordRows, Table, openedBlock};
+ghost use Rattle.archive.specs.Blocks.{Table, openedBlock};
 use cipher::block::put_block;
 use cipher::image::look_up;
 use cipher::lengths;
 use cipher::round::four_unrounds;
 use cipher::rows::decipher;
 use cipher::size::KeySize;
-use cipher::word::bytes;
-use cipher::word::words;
-use cipher::word::xor;
+use words::word::bytes;
+use words::word::words;
+use words::word::xor;
 
 // Four blocks, in words.
 struct Four {
@@ -62,7 +62,7 @@ pub fn open_block(
     sealed: &[u8],
     k: usize,
 ) -> [u8; 16]
-    requires { ⌜ WordRows rows × Table (now table) × (length (now iv) ≡ blockLength) × (blockLength * k + blockLength ≤ length (now sealed)) ⌝ }
+    requires { ⌜ RowsOfWords rows × Table (now table) × (length (now iv) ≡ blockLength) × (blockLength * k + blockLength ≤ length (now sealed)) ⌝ }
     ensures { λ r. ⌜ r ≡ openedBlock rows (S.rounds size) (imaged (now (table .entry))) (now (iv .entry)) (now (sealed .entry)) k ⌝ }
 {
     let prior = before_words(table, iv, sealed, k);
@@ -100,7 +100,7 @@ fn decipher_four(rows: &[[u32; 6]; 32], size: KeySize, x: Four) -> Four
 // The xor of two blocks of words written over the 16 bytes of out from a place on.
 fn put_xored(out: &mut [u8], at: usize, x: [u32; 4], y: [u32; 4])
     requires { ⌜ at + blockLength ≤ length (now out) ⌝ }
-    ensures { λ _. ⌜ now (out .exit) ≡ take at (now (out .entry)) ++ L.bytes (xorWords x y) ++ drop (at + blockLength) (now (out .entry)) ⌝ }
+    ensures { λ _. ⌜ now (out .exit) ≡ take at (now (out .entry)) ++ bytes (xorWords x y) ++ drop (at + blockLength) (now (out .entry)) ⌝ }
 {
     put_block(out, at, bytes(xor(x, y)));
 }
@@ -116,7 +116,7 @@ pub fn open_blocks(
     n: usize,
     out: &mut [u8],
 )
-    requires { ⌜ WordRows rows × Table (now table) × (length (now iv) ≡ blockLength) × (n ≤ 65536) × (blockLength * n ≤ length (now sealed)) × (blockLength * n ≤ length (now out)) ⌝ }
+    requires { ⌜ RowsOfWords rows × Table (now table) × (length (now iv) ≡ blockLength) × (n ≤ 65536) × (blockLength * n ≤ length (now sealed)) × (blockLength * n ≤ length (now out)) ⌝ }
     ensures { λ _. ⌜ now (out .exit) ≡ chunks n (openedBlock rows (S.rounds size) (imaged (now (table .entry))) (now (iv .entry)) (now (sealed .entry))) ++ drop (blockLength * n) (now (out .entry)) ⌝ }
 {
     let fours = n / 4;

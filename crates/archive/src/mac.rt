@@ -4,7 +4,7 @@ ghost use Prim.Native.Nat.{_≤_};
 ghost use lib.ListN.{length};
 ghost use Rattle.lists.specs.Blocks.{Block, blockLength};
 ghost use Rattle.cipher.specs.KeySize as S;
-ghost use Rattle.cipher.specs.Schedule.{words4};
+ghost use Rattle.words.specs.Word.{words4};
 ghost use Rattle.cipher.specs.Lea.{firstRounds};
 ghost use Rattle.cipher.specs.Cmac as C;
 ghost use Rattle.archive.specs.Mac.{filledBlock, lastUnder};
@@ -14,9 +14,9 @@ use cipher::cmac::subkeys;
 use cipher::lengths;
 use cipher::rows::encipher;
 use cipher::size::KeySize;
-use cipher::word::bytes;
-use cipher::word::words;
-use cipher::word::xor;
+use words::word::bytes;
+use words::word::words;
+use words::word::xor;
 
 // How many blocks of a message of n bytes come before its last one.
 fn blocks_before(n: usize) -> usize

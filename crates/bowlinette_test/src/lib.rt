@@ -21,7 +21,7 @@ pub extern "C" fn bowlinette_cbc_mac(key: &[u8], text: &[u8], out: &mut [u8; 16]
     };
     let rows = cipher::schedule::key_rows(size, key);
     let x = cipher::cmac::cbc_mac(rows, size, text, text.len() / lengths::BLOCK);
-    let b = cipher::word::bytes(x);
+    let b = words::word::bytes(x);
     *out = b;
     0
 }

@@ -12,8 +12,8 @@ use Rattle.lists.specs.Blocks.{zeros}
 use Rattle.lists.specs.Refusals.{first}
 use Rattle.lists.proofs.RefusalLaws.{first-hit, first-pass}
 use Rattle.cipher.specs.KeySize.{keyLength, sizeOfKey}
-use Rattle.cipher.specs.Schedule.{words4}
-use Rattle.cipher.specs.Lea.{bytes, keyRows}
+use Rattle.words.specs.Word.{words4, bytes}
+use Rattle.cipher.specs.Lea.{keyRows}
 use Rattle.cipher.specs.Answers.{keyLengthTests, keyTests, blockTests, badText, textTests, roomTests, keyLengthSize, keySize, onBlock}
 use Rattle.cipher.specs.Refusal.{numberOf}
 use Rattle.cipher.specs.declared.refusal.Refusal.{Refusal}

@@ -6,8 +6,7 @@ use native.Mathlib.Numerals.{add-one}
 use lib.ListN.{take, drop}
 use Rattle.lists.specs.Blocks.{Bytes, Block, xorBlock, cut}
 use Rattle.lists.proofs.BlockLaws.{bytes-take, block-xor, cut-more}
-use Rattle.cipher.specs.Word.{xorWords}
-use Rattle.cipher.specs.Schedule.{words4}
+use Rattle.words.specs.Word.{xorWords, words4}
 use Rattle.cipher.specs.Lea.{forward, firstRounds}
 use Rattle.cipher.specs.Cmac.{cbcMac}
 use Rattle.cipher.proofs.LeaLaws.{forward-words, words-bytes, words-take, words-xor, words-four, block-rounds}

@@ -12,8 +12,7 @@ use Rattle.lists.specs.HalfBytes.{halfByte, joined}
 use Rattle.lists.proofs.TabulationLaws.{getD-tab, tab-is, tab-ext}
 use Rattle.lists.proofs.BlockLaws.{block-tab, xor-at}
 use Rattle.lists.proofs.HalfByteLaws.{half-lt, half-xor}
-use Rattle.cipher.specs.Word.{word, wordAt}
-use Rattle.cipher.specs.Schedule.{words4}
+use Rattle.words.specs.Word.{word, wordAt, words4}
 use Rattle.cipher.specs.Coding.{Set, Permutations, decode, blockHalf, ofHalves, coded, decoded}
 use Rattle.cipher.proofs.Permutation.{decode-lt, decode-code, code-decode, decode-ext}
 

@@ -5,7 +5,7 @@ use Prim.Native.Nat.{ℕ, _^_, _<_}
 use lib.Dec.{lit<}
 use Rattle.lists.specs.HalfBytes.{halfByte, joined}
 use Rattle.lists.proofs.HalfByteLaws.{joined-lt, nib-joined, joined-is}
-use Rattle.cipher.specs.Schedule.{words4}
+use Rattle.words.specs.Word.{words4}
 use Rattle.cipher.specs.Coding.{Set, Permutations, decode, blockHalf, ofHalves, decoded}
 use Rattle.cipher.proofs.Permutation.{decode-lt}
 use Rattle.cipher.proofs.CodingLaws.{Halves, blockHalf-lt, blockHalf-of, words-halves}

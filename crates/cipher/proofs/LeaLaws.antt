@@ -9,17 +9,18 @@ use lib.Bits.{bitXor}
 use lib.Dec.{lit<, lit≤}
 use lib.ListN.{getD, take}
 use lib.Seq.{getD-take}
+use Rattle.words.proofs.RowLaws.{wordAt-word}
 use Rattle.lists.specs.Tabulation.{tab}
 use Rattle.lists.specs.Blocks.{Below, Bytes, Block, zeros, xorBlock}
 use Rattle.lists.proofs.BlockLaws.{xor-at}
 use Rattle.lists.proofs.TabulationLaws.{tab-is}
-use Rattle.cipher.specs.Word.{add, sub, xor, turnLeft, turnRight, word, bytesOf, wordAt, xorWords}
+use Rattle.words.specs.Word.{add, sub, xor, turnLeft, turnRight, word, bytesOf, wordAt, xorWords, words4, bytes}
 use Rattle.cipher.specs.KeySize.{rounds}
-use Rattle.cipher.specs.Schedule.{words4}
-use Rattle.cipher.specs.Lea.{keyed, unkeyed, round, unround, forward, backward, bytes, firstRounds, undoneRounds, encipher, decipher, keyRows}
+use Rattle.words.specs.Rows.{RowsOfWords}
+use Rattle.cipher.specs.Lea.{keyed, unkeyed, round, unround, forward, backward, firstRounds, undoneRounds, encipher, decipher, keyRows}
 use Rattle.cipher.specs.declared.size.KeySize.{KeySize}
-use Rattle.cipher.proofs.WordLaws.{right-left, left-right, add-word, sub-word, left-word, right-word, xor-word, sub-add, add-sub, xor-xor, bytes-word, word-bytes, word-xor}
-use Rattle.cipher.proofs.ScheduleLaws.{RowsOfWords, wordAt-word, key-words}
+use Rattle.words.proofs.WordLaws.{right-left, left-right, add-word, sub-word, left-word, right-word, xor-word, sub-add, add-sub, xor-xor, bytes-word, word-bytes, word-xor}
+use Rattle.cipher.proofs.ScheduleLaws.{key-words}
 
 -- four words
 pub data Four : List ℕ → Type 0 where

@@ -1,4 +1,3 @@
-pub mod WordLaws
 pub mod KeySizeLaws
 pub mod TurnSums
 pub mod ScheduleLaws

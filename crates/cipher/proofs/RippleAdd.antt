@@ -5,7 +5,7 @@ use native.Mathlib.Nat.{add-zero}
 use native.Mathlib.Omega.{arith}
 use Rattle.lists.specs.HalfBytes.{halfByte}
 use Rattle.lists.proofs.HalfByteLaws.{half-mod}
-use Rattle.cipher.specs.Word.{add}
+use Rattle.words.specs.Word.{add}
 
 -- the carry into half byte j of a + b + c
 unfoldable pub carryInto : ℕ → ℕ → ℕ → ℕ → ℕ

@@ -10,12 +10,11 @@ use lib.Bits.{bitXor}
 use lib.ListN.{getD}
 use Rattle.lists.specs.HalfBytes.{halfByte}
 use Rattle.lists.proofs.HalfByteLaws.{half-lt, half-xor}
-use Rattle.cipher.specs.Word.{xor, turnLeft, turnRight}
-use Rattle.cipher.specs.Schedule.{words4}
+use Rattle.words.specs.Word.{xor, turnLeft, turnRight, words4}
 use Rattle.cipher.specs.Lea.{keyed, round}
 use Rattle.cipher.specs.Coding.{decode, blockHalf, decoded}
 use Rattle.cipher.specs.Tables.{turned, turnEntry, RoundCodings, ValidCodings, ValidRound, addTable, upper, lower, turnTable, addAt, RoundTables, carryAt, sumAt, newAt, halfAfter, tableRound}
-use Rattle.cipher.proofs.WordLaws.{add-word, left-word, right-word}
+use Rattle.words.proofs.WordLaws.{add-word, left-word, right-word}
 use Rattle.cipher.proofs.Permutation.{decode-code, decode-ext}
 use Rattle.cipher.proofs.TableLaws.{turned-lt}
 use Rattle.cipher.proofs.CodingLaws.{Halves, blockHalf-lt}

@@ -5,8 +5,8 @@ use mathlib.Core.List.{List, []}
 use Prim.Native.Nat.{ℕ, zero, suc, _≤_, _<_}
 use native.Mathlib.Nat.{le-of-suc-le}
 use lib.ListN.{getD}
-use Rattle.cipher.specs.Schedule.{words4}
-use Rattle.cipher.specs.Lea.{round, forward, bytes, firstRounds}
+use Rattle.words.specs.Word.{words4, bytes}
+use Rattle.cipher.specs.Lea.{round, forward, firstRounds}
 use Rattle.cipher.specs.Coding.{Set, Permutations, decoded}
 use Rattle.cipher.specs.Tables.{RoundCodings, ValidRound, RoundTables, tableRound, tableRounds}
 use Rattle.cipher.proofs.LeaLaws.{bytes-words}

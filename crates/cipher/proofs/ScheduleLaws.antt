@@ -7,18 +7,20 @@ use native.Mathlib.Omega.{arith}
 use native.Mathlib.Numerals.{add-one}
 use mathlib.Core.List.{List, [], _∷_, _++_}
 use lib.Dec.{lit<}
-use lib.ListN.{getD, length, set, replicate, length-append}
-use Rattle.lists.specs.Blocks.{Below, Bytes}
+use lib.ListN.{getD, length, set, length-append}
+use Rattle.lists.specs.Blocks.{Bytes}
 use Rattle.lists.specs.Tabulation.{tab}
 use Rattle.lists.proofs.PartLaws.{fill-more}
 use Rattle.lists.proofs.TabulationLaws.{getD-tab, tab-ext}
 use Rattle.cipher.specs.Lea.{keyRows}
-use Rattle.cipher.specs.Word.{add, rol, word, wordAt}
-use Rattle.cipher.specs.Schedule.{delta, deltaOf, turns, mixed, mixedFour, mixedRow, step16, row16, step24, row24, place, mixAt, step32, row32, words4, words6, words8}
-use Rattle.cipher.specs.Schedule.{stepped, rowsOf, blank, filled, schedule}
+use Rattle.words.specs.Word.{add, rol, words4}
+use Rattle.words.specs.Rows.{blank, RowsOfWords}
+use Rattle.cipher.specs.Schedule.{delta, deltaOf, turns, mixed, mixedFour, mixedRow, step16, row16, step24, row24, place, mixAt, step32, row32, words6, words8}
+use Rattle.cipher.specs.Schedule.{stepped, rowsOf, filled, schedule}
 use Rattle.cipher.specs.declared.size.KeySize.{KeySize}
 use Rattle.cipher.specs.declared.size.KeySize.the-variants.{Bytes16, Bytes24, Bytes32}
-use Rattle.cipher.proofs.WordLaws.{left-word, add-word}
+use Rattle.words.proofs.WordLaws.{left-word, add-word}
+use Rattle.words.proofs.RowLaws.{Words, Rows, none, more, below, rows-below, joined, rows-joined, set-words, rows-same, wordAt-word, words4-words}
 use Rattle.cipher.proofs.TurnSums.{rol-sum}
 
 -- ---- one step and one row more
@@ -46,61 +48,9 @@ module _ (step row : ℕ → List ℕ → List ℕ) where
 
 -- ---- every round key is a word
 
--- a list of words, and rows of them
-data Words : List ℕ → Type 0 where
-  none : Words []
-  more : {x : ℕ} {l : List ℕ} → x < 2 ^ 32 → Words l → Words (x ∷ l)
-
-data Rows : List (List ℕ) → Type 0 where
-  none : Rows []
-  more : {x : List ℕ} {l : List (List ℕ)} → Words x → Rows l → Rows (x ∷ l)
-
--- every word of every row is below 2 ^ 32; past the ends `getD` gives 0
-abbrev pub RowsOfWords : List (List ℕ) → Type 0
-RowsOfWords rows = (l : ℕ) → Below (2 ^ 32) (getD rows l [])
-
-below : {l : List ℕ} → Words l → Below (2 ^ 32) l
-below none k = lit< tt
-below (more h t) zero = h
-below (more h t) (suc k) = below t k
-
-rows-below : {l : List (List ℕ)} → Rows l → RowsOfWords l
-rows-below none k i = lit< tt
-rows-below (more h t) zero i = below h i
-rows-below (more h t) (suc k) i = rows-below t k i
-
-joined : {l r : List ℕ} → Words l → Words r → Words (l ++ r)
-joined none t = t
-joined (more h s) t = more h (joined s t)
-
-rows-joined : {l r : List (List ℕ)} → Rows l → Rows r → Rows (l ++ r)
-rows-joined none t = t
-rows-joined (more h s) t = more h (rows-joined s t)
-
-set-words : {l : List ℕ} → (i v : ℕ) → v < 2 ^ 32 → Words l → Words (set l i v)
-set-words i v h none = none
-set-words zero v h (more x t) = more h t
-set-words (suc i) v h (more x t) = more x (set-words i v h t)
-
-same : (n : ℕ) → Words (replicate n 0)
-same zero = none
-same (suc n) = more (lit< tt) (same n)
-
-rows-same : (n : ℕ) → Rows (replicate n blank)
-rows-same zero = none
-rows-same (suc n) = more (same 6) (rows-same n)
-
-pub wordAt-word : (b : List ℕ) (i : ℕ) → Bytes b → wordAt b i < 2 ^ 32
-unfolding wordAt word
-wordAt-word b i h = omega (arith, h i, h (i + 1), h (i + 2), h (i + 3))
-
 mixed-word : (d i m t : ℕ) → mixed d i m t < 2 ^ 32
 unfolding mixed
 mixed-word d i m t = left-word (getD turns m 0 % 32) _ (omega arith) (add-word t _)
-
-words4-words : (b : List ℕ) → Bytes b → Words (words4 b)
-unfolding words4
-words4-words b h = more (wordAt-word b 0 h) (more (wordAt-word b 4 h) (more (wordAt-word b 8 h) (more (wordAt-word b 12 h) none)))
 
 words6-words : (b : List ℕ) → Bytes b → Words (words6 b)
 unfolding words6

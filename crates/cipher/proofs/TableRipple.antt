@@ -8,7 +8,7 @@ use lib.Dec.{lit<}
 use Rattle.lists.specs.HalfBytes.{halfByte}
 use Rattle.lists.proofs.HalfByteLaws.{half-lt}
 use Rattle.lists.proofs.XorLaws.{xor-cancel}
-use Rattle.cipher.specs.Word.{add}
+use Rattle.words.specs.Word.{add}
 use Rattle.cipher.specs.Coding.{decode}
 use Rattle.cipher.specs.Tables.{addSum, addEntry}
 use Rattle.cipher.proofs.RippleAdd.{carryInto, carry-next, carry-lt, half-add}

@@ -6,7 +6,7 @@ use native.Mathlib.Decide.{decLt}
 use native.Mathlib.Omega.{arith}
 use Rattle.lists.specs.HalfBytes.{halfByte}
 use Rattle.lists.proofs.HalfByteLaws.{half-mod}
-use Rattle.cipher.specs.Word.{turnLeft, turnRight}
+use Rattle.words.specs.Word.{turnLeft, turnRight}
 
 -- ---- cuts
 

@@ -6,8 +6,8 @@ use native.Mathlib.Omega.{arith}
 use native.Mathlib.Decide.{decLt}
 use lib.Arith.{digits-lt}
 use lib.Pow.{pow-pos, pow-add, shr-lt, shr-shr, mod-pow-add}
-use Rattle.cipher.specs.Word.{turnLeft, rol}
-use Rattle.cipher.proofs.WordLaws.{left-none, left-word}
+use Rattle.words.specs.Word.{turnLeft, rol}
+use Rattle.words.proofs.WordLaws.{left-none, left-word}
 
 -- a turn by 1 of a word with the top digit a
 one : (a p : ℕ) → p < 2 ^ 31 → turnLeft 1 (a * 2 ^ 31 + p) ≡ p * 2 + a

@@ -1,9 +1,9 @@
 -- The examples of specs/Vectors, by computation from the definitions: the three ciphertexts, and the two subkeys.
 use mathlib.Core.Path.{_≡_, refl}
 use Rattle.lists.specs.Tabulation.{tab}
-use Rattle.cipher.specs.Word.{add, xor, turnLeft, turnRight, word, bytesOf, wordAt}
-use Rattle.cipher.specs.Schedule.{mixed, mixedFour, mixedRow, row16, place, mixAt, step32, row32, words4, words6, words8, stepped, rowsOf, schedule}
-use Rattle.cipher.specs.Lea.{keyed, round, forward, bytes, firstRounds, encipher}
+use Rattle.words.specs.Word.{add, xor, turnLeft, turnRight, word, bytesOf, wordAt, words4, bytes}
+use Rattle.cipher.specs.Schedule.{mixed, mixedFour, mixedRow, row16, place, mixAt, step32, row32, words6, words8, stepped, rowsOf, schedule}
+use Rattle.cipher.specs.Lea.{keyed, round, forward, firstRounds, encipher}
 use Rattle.cipher.specs.Cmac.{double}
 use Rattle.cipher.specs.Vectors.{key16, plain16, cipher16, key24, plain24, cipher24, key32, plain32, cipher32, cmacL, cmacK1, cmacK2}
 use Rattle.cipher.specs.declared.size.KeySize.the-variants.{Bytes16, Bytes24, Bytes32}

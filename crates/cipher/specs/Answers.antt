@@ -10,7 +10,7 @@ use Rattle.lists.specs.Refusals.{first}
 use Rattle.cipher.specs.KeySize.{rounds}
 use Rattle.cipher.specs.Lengths.{longestCode}
 use Rattle.cipher.specs.Refusal.{outcomeOf}
-use Rattle.cipher.specs.Schedule.{blank}
+use Rattle.words.specs.Rows.{blank}
 use Rattle.cipher.specs.Lea.{firstRounds, encipher, decipher, keyRows}
 use Rattle.cipher.specs.Chain.{setTests, chainTests}
 use Rattle.cipher.specs.declared.size.KeySize.{KeySize}

@@ -1,11 +1,11 @@
 -- LEA on blocks of 16 bytes under rows of round keys (document 001, algorithms 1, 2, 6 and 7; document 01, "LEA"). Everything is
 -- said of any rows; a key enters only by its rows.
 use Prim.Native.Nat.{ℕ, zero, suc}
-use mathlib.Core.List.{List, [], _∷_, _++_}
+use mathlib.Core.List.{List, [], _∷_}
 use lib.ListN.{getD}
-use Rattle.cipher.specs.Word.{add, sub, xor, rol, ror, bytesOf}
+use Rattle.words.specs.Word.{add, sub, xor, rol, ror, words4, bytes}
 use Rattle.cipher.specs.KeySize.{rounds}
-use Rattle.cipher.specs.Schedule.{words4, schedule}
+use Rattle.cipher.specs.Schedule.{schedule}
 use Rattle.cipher.specs.declared.size.KeySize.{KeySize}
 
 -- the sum of two words, each under its round key
@@ -42,10 +42,6 @@ forward rows (suc n) x = round (getD rows n []) (forward rows n x)
 unfoldable pub backward : List (List ℕ) → ℕ → List ℕ → List ℕ
 backward rows zero x = x
 backward rows (suc n) x = backward rows n (unround (getD rows n []) x)
-
--- the bytes of four words
-unfoldable pub bytes : List ℕ → List ℕ
-bytes x = bytesOf (getD x 0 0) ++ bytesOf (getD x 1 0) ++ bytesOf (getD x 2 0) ++ bytesOf (getD x 3 0)
 
 -- the first n rounds on a block of bytes, and the same undone
 unfoldable pub firstRounds : List (List ℕ) → ℕ → List ℕ → List ℕ

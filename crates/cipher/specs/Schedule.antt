@@ -3,7 +3,8 @@
 use Prim.Native.Nat.{ℕ, zero, suc, _+_, _-_, _*_, _%_}
 use mathlib.Core.List.{List, [], _∷_, _++_}
 use lib.ListN.{getD, set, replicate}
-use Rattle.cipher.specs.Word.{add, rol, wordAt}
+use Rattle.words.specs.Word.{add, rol, wordAt, words4}
+use Rattle.words.specs.Rows.{blank}
 use Rattle.cipher.specs.declared.size.KeySize.{KeySize}
 use Rattle.cipher.specs.declared.size.KeySize.the-variants.{Bytes16, Bytes24, Bytes32}
 
@@ -72,9 +73,6 @@ row32 i t =
 
 -- ---- any size
 -- the first words of a list of bytes
-unfoldable pub words4 : List ℕ → List ℕ
-words4 b = wordAt b 0 ∷ wordAt b 4 ∷ wordAt b 8 ∷ wordAt b 12 ∷ []
-
 unfoldable pub words6 : List ℕ → List ℕ
 words6 b = words4 b ++ (wordAt b 16 ∷ wordAt b 20 ∷ [])
 
@@ -89,10 +87,6 @@ stepped step (suc i) t = step i (stepped step i t)
 unfoldable pub rowsOf : (ℕ → List ℕ → List ℕ) → (ℕ → List ℕ → List ℕ) → ℕ → List ℕ → List (List ℕ)
 rowsOf step row zero t = []
 rowsOf step row (suc n) t = rowsOf step row n t ++ (row n (stepped step (suc n) t) ∷ [])
-
--- a row that no round uses
-abbrev pub blank : List ℕ
-blank = replicate 6 0
 
 -- the first n of 32 rows, then blank ones
 abbrev pub filled : (ℕ → List ℕ → List ℕ) → (ℕ → List ℕ → List ℕ) → ℕ → List ℕ → List (List ℕ)

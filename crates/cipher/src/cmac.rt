@@ -4,16 +4,16 @@ ghost use Prim.Native.Nat.{_*_, _≤_};
 ghost use lib.ListN.{length};
 ghost use Rattle.lists.specs.Blocks.{zeros, cut, blockLength};
 ghost use Rattle.cipher.specs.KeySize.{rounds};
-ghost use Rattle.cipher.specs.Schedule.{words4};
+ghost use Rattle.words.specs.Word.{words4};
 ghost use Rattle.cipher.specs.Lea.{firstRounds};
 ghost use Rattle.cipher.specs.Cmac as C;
 use crate::lengths;
 use crate::round::four_rounds;
 use crate::rows;
 use crate::size::KeySize;
-use crate::word::bytes;
-use crate::word::words;
-use crate::word::xor;
+use words::word::bytes;
+use words::word::words;
+use words::word::xor;
 
 // The subkeys of a key.
 pub struct SubkeyPair {

@@ -1,7 +1,7 @@
 // The operations on a key and a block. Each refuses a key of no known size (1), then a block that is
 // not of 16 bytes (7).
 ghost use mathlib.Core.Path.{_≡_};
-ghost use Rattle.cipher.specs.Lea as L;
+ghost use Rattle.words.specs.Word.{bytes};
 ghost use Rattle.cipher.specs.Answers.{blockTold, rowTold, encipherAnswer, decipherAnswer, roundsAnswer, rowAnswer};
 use crate::answer::BlockAnswer;
 use crate::answer::refused;
@@ -12,8 +12,8 @@ use crate::rows;
 use crate::schedule::key_rows;
 use crate::size::KeySize;
 use crate::size::SizeFound;
-use crate::word::bytes;
-use crate::word::words;
+use words::word::bytes;
+use words::word::words;
 
 // A row of round keys, or the refusal and zeros.
 pub struct RowAnswer {
@@ -22,7 +22,7 @@ pub struct RowAnswer {
 }
 
 fn done(x: [u32; 4]) -> BlockAnswer
-    ensures { λ r. ⌜ blockTold r ≡ (0, L.bytes x) ⌝ }
+    ensures { λ r. ⌜ blockTold r ≡ (0, bytes x) ⌝ }
 {
     crate::answer::done(bytes(x))
 }

@@ -2,8 +2,8 @@
 // by fours, since each round count is a multiple of four and the compiler then moves no words about.
 ghost use mathlib.Core.Path.{_≡_};
 ghost use Rattle.cipher.specs.Lea as L;
-use crate::word::rotate_left;
-use crate::word::rotate_right;
+use words::word::rotate_left;
+use words::word::rotate_right;
 
 // The sum of two words, each under its round key.
 fn keyed(x: u32, k: u32, y: u32, l: u32) -> u32

@@ -7,13 +7,13 @@ ghost use Prim.Native.Nat.{_+_, _<_};
 ghost use lib.ListN.{length, getD};
 ghost use Rattle.lists.specs.Tabulation.{tab};
 ghost use Rattle.cipher.specs.KeySize.{keyLength};
-ghost use Rattle.cipher.specs.Word.{rol};
+ghost use Rattle.words.specs.Word.{rol, words4};
 ghost use Rattle.cipher.specs.Lea.{keyRows};
 ghost use Rattle.cipher.specs.Schedule as S;
 use crate::size::KeySize;
-use crate::word::rotate_left;
-use crate::word::word_at;
-use crate::word::words;
+use words::word::rotate_left;
+use words::word::word_at;
+use words::word::words;
 
 // The constants δ0 to δ7, each turned left by its number, as the first steps take them.
 const D0: u32 = 0xc3efe9db;
@@ -57,7 +57,7 @@ fn mixed_four(d: u32, t: [u32; 4]) -> [u32; 4]
 // The rows of a key of 16 bytes.
 fn schedule16(key: &[u8]) -> [[u32; 6]; 32]
     requires { ⌜ length (now key) ≡ 16 ⌝ }
-    ensures { λ r. ⌜ r ≡ S.filled S.step16 S.row16 24 (S.words4 (now (key .entry))) ⌝ }
+    ensures { λ r. ⌜ r ≡ S.filled S.step16 S.row16 24 (words4 (now (key .entry))) ⌝ }
 {
     let mut rows = [[0u32; 6]; 32];
     let mut t = words(key);

@@ -18,7 +18,7 @@ use Rattle.cipher.specs.Coding.{Set, coded, decoded}
 use Rattle.cipher.specs.Chain.{messageSet, chainSet, Chain}
 use Rattle.cipher.specs.Book.{Book}
 use Rattle.cipher.specs.declared.size.KeySize.{KeySize}
-use Rattle.cipher.proofs.ScheduleLaws.{RowsOfWords}
+use Rattle.words.specs.Rows.{RowsOfWords}
 use Rattle.cipher.proofs.LeaLaws.{rounds-undone}
 use Rattle.cipher.proofs.CodingLaws.{block-decoded, decoded-coded}
 use Rattle.pad.specs.Padding.{paddedForSealing, lastByte, SealingPadded, stripped, codedText}

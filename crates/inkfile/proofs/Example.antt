@@ -2,7 +2,7 @@
 use mathlib.Core.Path.{refl}
 use Rattle.lists.specs.Tabulation.{tab}
 use Rattle.lists.specs.Refusals.{first}
-use Rattle.cipher.specs.Word.{word, bytesOf}
+use Rattle.words.specs.Word.{word, bytesOf}
 use Rattle.cipher.specs.Answers.{badText}
 use Rattle.inkfile.specs.Kinds.{kindOf, due, sized}
 use Rattle.inkfile.specs.Format.{recordOf, runOf, inkOf}

@@ -11,7 +11,7 @@ use lib.Seq.{length-take-le}
 use Rattle.lists.specs.Overlay.{overlaid}
 use Rattle.lists.proofs.PartLaws.{put-more}
 use Rattle.lists.proofs.OverlayLaws.{four-overlaid}
-use Rattle.cipher.specs.Word.{bytesOf}
+use Rattle.words.specs.Word.{bytesOf}
 use Rattle.inkfile.specs.Format.{mark, headOf, recordOf}
 use Rattle.inkfile.specs.WritingSteps.{remarkBytes, remarkSize, fixedBytes, fixedSize, remarksBytes, remarksSize}
 use Rattle.inkfile.proofs.RecordLaws.{length-record}

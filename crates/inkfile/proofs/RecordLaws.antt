@@ -7,8 +7,8 @@ use native.Mathlib.Omega.{arith}
 use lib.ListN.{length, getD, take, drop, length-append, length-drop, take-append-drop}
 use lib.Seq.{getD-drop, drop-drop, drop-cons, length-take-le, take-append-seam, drop-append-seam}
 use Rattle.lists.specs.Blocks.{Bytes}
-use Rattle.cipher.specs.Word.{bytesOf}
-use Rattle.cipher.proofs.WordLaws.{word-bytes, bytes-word}
+use Rattle.words.specs.Word.{bytesOf}
+use Rattle.words.proofs.WordLaws.{word-bytes, bytes-word}
 use Rattle.inkfile.specs.Format.{Record, mark, recordOf}
 use Rattle.inkfile.specs.Reading.{kindAt, lengthAt, part}
 

@@ -3,7 +3,7 @@ use mathlib.Core.Path.{_≡_}
 use mathlib.Core.List.{List, [], _∷_, _++_}
 use Prim.Native.Nat.{ℕ, _%_, _≤_}
 use lib.ListN.{length}
-use Rattle.cipher.specs.Word.{bytesOf}
+use Rattle.words.specs.Word.{bytesOf}
 
 -- a record: its kind byte and its bytes
 abbrev pub Record : Type 0

@@ -7,7 +7,7 @@ use lib.ListN.{length, getD, take, drop}
 use Rattle.lists.specs.Blocks.{blockLength}
 use Rattle.lists.specs.Tabulation.{tab}
 use Rattle.lists.specs.Refusals.{first}
-use Rattle.cipher.specs.Word.{word}
+use Rattle.words.specs.Word.{word}
 use Rattle.inkfile.specs.Kinds.{padNumberLength, kindTests}
 use Rattle.inkfile.specs.Format.{Record, mark, headLength, Fields}
 

@@ -10,7 +10,7 @@ use crate::kind::fault;
 use crate::layout;
 use cipher::refusal::Outcome;
 use cipher::refusal::Refusal;
-use cipher::word::word;
+use words::word::word;
 
 // What is seen of a record: whether it is one, its kind byte and its length.
 pub struct Seen {

@@ -14,7 +14,7 @@ use crate::layout;
 use cipher::refusal::Outcome;
 use cipher::refusal::Refusal;
 use cipher::refusal::Written;
-use cipher::word::bytes_of;
+use words::word::bytes_of;
 
 // The fault of remark i, of n bytes, if it is given.
 fn remark_fault(kinds: &[u8], i: usize, n: usize) -> Outcome

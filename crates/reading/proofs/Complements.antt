@@ -7,8 +7,8 @@ use native.Mathlib.Omega.{arith}
 use lib.Dec.{lit<}
 use Rattle.lists.specs.HalfBytes.{halfByte}
 use Rattle.lists.proofs.HalfByteLaws.{half-lt}
-use Rattle.cipher.specs.Word.{add, sub}
-use Rattle.cipher.proofs.WordLaws.{add-word}
+use Rattle.words.specs.Word.{add, sub}
+use Rattle.words.proofs.WordLaws.{add-word}
 use Rattle.cipher.proofs.RippleAdd.{carryInto, carry-next, carry-lt, half-add}
 
 half-complement : (n x j : ℕ) → x < 16 ^ n → j < n → halfByte (16 ^ n - 1 - x) j ≡ 15 - halfByte x j

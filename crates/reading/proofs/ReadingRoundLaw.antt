@@ -12,12 +12,11 @@ use Rattle.lists.specs.Blocks.{Below}
 use Rattle.lists.specs.HalfBytes.{halfByte}
 use Rattle.lists.proofs.HalfByteLaws.{half-lt, half-xor}
 use Rattle.lists.proofs.XorLaws.{xor-assoc}
-use Rattle.cipher.specs.Word.{add, sub, xor}
-use Rattle.cipher.specs.Schedule.{words4}
+use Rattle.words.specs.Word.{add, sub, xor, words4}
 use Rattle.cipher.specs.Lea.{unkeyed, unround}
 use Rattle.cipher.specs.Coding.{decode, blockHalf, decoded}
 use Rattle.cipher.specs.Tables.{RoundCodings, ValidCodings}
-use Rattle.cipher.proofs.WordLaws.{add-word, sub-word, xor-word}
+use Rattle.words.proofs.WordLaws.{add-word, sub-word, xor-word}
 use Rattle.cipher.proofs.Permutation.{decode-code, decode-ext}
 use Rattle.cipher.proofs.CodingLaws.{blockHalf-lt}
 use Rattle.reading.specs.LikeSealing.{sumCoding}

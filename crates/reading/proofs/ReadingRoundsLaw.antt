@@ -5,11 +5,11 @@ use mathlib.Core.List.{List}
 use Prim.Native.Nat.{ℕ, zero, suc, _-_, _≤_, _<_}
 use native.Mathlib.Nat.{le-refl, le-of-suc-le}
 use native.Mathlib.Omega.{arith}
-use Rattle.cipher.specs.Schedule.{words4}
-use Rattle.cipher.specs.Lea.{unround, backward, bytes, undoneRounds}
+use Rattle.words.specs.Word.{words4, bytes}
+use Rattle.cipher.specs.Lea.{unround, backward, undoneRounds}
 use Rattle.cipher.specs.Coding.{Set, Permutations, decoded}
 use Rattle.cipher.specs.Tables.{RoundCodings}
-use Rattle.cipher.proofs.ScheduleLaws.{RowsOfWords}
+use Rattle.words.specs.Rows.{RowsOfWords}
 use Rattle.cipher.proofs.LeaLaws.{bytes-words}
 use Rattle.cipher.proofs.CodingLaws.{block-decoded}
 use Rattle.reading.specs.Tables.{ValidReadingRound, ReadingTables, readRound, readRounds}

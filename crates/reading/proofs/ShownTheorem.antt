@@ -7,14 +7,14 @@ use native.Mathlib.Nat.{le-refl}
 use Rattle.lists.specs.Blocks.{Block, zeros, xorBlock, blocks, eachAfter}
 use Rattle.lists.proofs.BlockLaws.{Blocks, none, more, block-zeros, block-xor, xor-block-zeros, blocks-flatten}
 use Rattle.cipher.specs.KeySize.{rounds}
-use Rattle.cipher.specs.Schedule.{words4}
-use Rattle.cipher.specs.Lea.{bytes, undoneRounds}
+use Rattle.words.specs.Word.{words4, bytes}
+use Rattle.cipher.specs.Lea.{undoneRounds}
 use Rattle.cipher.specs.Cbc.{cbcDeciphered}
 use Rattle.cipher.specs.Coding.{Set, decoded}
 use Rattle.cipher.specs.Tables.{tableFold}
 use Rattle.cipher.specs.Chain.{messageSet, chainSet, roundCodings}
 use Rattle.cipher.specs.declared.size.KeySize.{KeySize}
-use Rattle.cipher.proofs.ScheduleLaws.{RowsOfWords}
+use Rattle.words.specs.Rows.{RowsOfWords}
 use Rattle.cipher.proofs.CodingLaws.{Agree, block-halves, block-decoded, decoded-agree}
 use Rattle.cipher.proofs.FoldLaw.{fold-lt, fold-law}
 use Rattle.reading.specs.Tables.{readRounds}

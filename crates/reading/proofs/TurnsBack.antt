@@ -4,8 +4,8 @@ use Prim.Native.Nat.{ℕ, zero, suc, _+_, _*_, _/_, _%_, _^_, _<_}
 use native.Mathlib.Omega.{arith}
 use Rattle.lists.specs.HalfBytes.{halfByte}
 use Rattle.lists.proofs.HalfByteLaws.{half-lt}
-use Rattle.cipher.specs.Word.{turnLeft, turnRight}
-use Rattle.cipher.proofs.WordLaws.{left-word, right-word, right-left, left-right}
+use Rattle.words.specs.Word.{turnLeft, turnRight}
+use Rattle.words.proofs.WordLaws.{left-word, right-word, right-left, left-right}
 use Rattle.cipher.proofs.TurnDigits.{half-left9, half-right5, half-right3}
 use Rattle.reading.specs.Tables.{turnedBack, upperBack, lowerBack}
 

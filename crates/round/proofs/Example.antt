@@ -4,9 +4,9 @@ use mathlib.Core.Path.{_≡_, refl, ap, ap₂, _∙_}
 use mathlib.Core.List.{List, _++_}
 use Prim.Native.Nat.{ℕ}
 use Rattle.lists.specs.Tabulation.{chunks}
-use Rattle.cipher.specs.Word.{add, xor, turnLeft, turnRight, word, bytesOf, wordAt}
-use Rattle.cipher.specs.Schedule.{mixed, mixedFour, row16, words4, stepped, rowsOf, schedule}
-use Rattle.cipher.specs.Lea.{keyed, round, forward, bytes, firstRounds, encipher}
+use Rattle.words.specs.Word.{add, xor, turnLeft, turnRight, word, bytesOf, wordAt, words4, bytes}
+use Rattle.cipher.specs.Schedule.{mixed, mixedFour, row16, stepped, rowsOf, schedule}
+use Rattle.cipher.specs.Lea.{keyed, round, forward, firstRounds, encipher}
 use Rattle.cipher.specs.declared.size.KeySize.the-variants.{Bytes16}
 use Rattle.cipher.specs.Vectors.{key16, plain16, cipher16}
 use Rattle.cipher.proofs.Vectors.{vector16}

@@ -7,6 +7,7 @@ use Rattle.lists.specs.Blocks.{zeros, blocks}
 use Rattle.lists.specs.Refusals.{first}
 use Rattle.lists.proofs.BlockLaws.{block-zeros}
 use Rattle.cipher.specs.KeySize.{keyLength, rounds}
+use Rattle.words.specs.Word.{bytes}
 use Rattle.cipher.specs.Lea as L
 use Rattle.cipher.specs.Cmac.{cbcMac}
 use Rattle.cipher.specs.declared.size.KeySize.{KeySize}
@@ -40,7 +41,7 @@ returns-2 c =
     let a = s .before .before .before .before .before .args in
     let bs = blocks (a .text .now) in
     let value = c .bytes .ensures
-    ∙ ap L.bytes (c .before .cbc-mac .ensures)
+    ∙ ap bytes (c .before .cbc-mac .ensures)
     ∙ bytes-words (mac-block _ (rounds z) zeros bs block-zeros)
     ∙ ap (λ (rows : List (List ℕ)). cbcMac (L.firstRounds rows (rounds z)) zeros bs) (c .before .before .key-rows .ensures) in
     let e = key-taken (a .key .now) [] (λ n. (n, zeros)) (macOf (a .key .now) (a .text .now)) z (sym (s .before .before .of-key-len .ensures) ∙ s .size .given .1) in

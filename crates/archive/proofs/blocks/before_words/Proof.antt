@@ -1,7 +1,7 @@
 -- `blocks::before_words` meets its contract.
 use mathlib.Core.Path.{ap, _∙_}
 use borrow.Author.Needs.{needs}
-use Rattle.cipher.specs.Schedule.{words4}
+use Rattle.words.specs.Word.{words4}
 use Rattle.cipher.specs.Images.{imaged}
 use Rattle.archive.proofs.OpenLaws.{before-first, before-next}
 use Rattle.archive.proofs.blocks.before_words.Statement.{statement}

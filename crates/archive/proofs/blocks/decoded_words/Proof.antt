@@ -4,7 +4,7 @@ use Prim.Native.Nat.{ℕ}
 use native.Mathlib.Nat.{add-sub-cancel-left}
 use borrow.Author.Needs.{needs}
 use lib.ListN.{take, drop}
-use Rattle.cipher.specs.Schedule.{words4}
+use Rattle.words.specs.Word.{words4}
 use Rattle.cipher.specs.Images.{imaged}
 use Rattle.archive.proofs.blocks.decoded_words.Statement.{statement}
 use Rattle.archive.proofs.blocks.decoded_words.Tie as tie

@@ -2,7 +2,7 @@
 use mathlib.Core.Path.{ap, _∙_}
 use borrow.Author.Needs.{needs}
 use Rattle.archive.proofs.OpenLaws.{opened-words}
-use Rattle.cipher.specs.Lea.{bytes}
+use Rattle.words.specs.Word.{bytes}
 use Rattle.cipher.specs.Images.{imaged}
 use Rattle.cipher.proofs.ImageLaws.{block-imaged}
 use Rattle.archive.proofs.blocks.open_block.Statement.{statement}

@@ -8,7 +8,7 @@ use lib.ListN.{length, drop}
 use Rattle.lists.specs.Tabulation.{chunks}
 use Rattle.lists.specs.Blocks.{Block, blockOf, blockBefore}
 use Rattle.cipher.specs.KeySize.{rounds}
-use Rattle.cipher.specs.Schedule.{words4}
+use Rattle.words.specs.Word.{words4}
 use Rattle.cipher.specs.Images.{imaged}
 use Rattle.cipher.proofs.ImageLaws.{block-imaged}
 use Rattle.archive.specs.Blocks.{openedBlock}

@@ -4,7 +4,7 @@ use mathlib.Core.List.{List, _++_}
 use Prim.Native.Nat.{ℕ, _+_}
 use borrow.Author.Needs.{needs}
 use lib.ListN.{take, drop}
-use Rattle.cipher.specs.Lea.{bytes}
+use Rattle.words.specs.Word.{bytes}
 use Rattle.archive.proofs.blocks.put_xored.Statement.{statement}
 use Rattle.archive.proofs.blocks.put_xored.Tie as tie
 

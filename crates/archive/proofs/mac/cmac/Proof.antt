@@ -3,9 +3,10 @@ use mathlib.Core.Path.{ap, _∙_}
 use Prim.Native.Nat.{_*_}
 use native.Mathlib.Omega.{arith}
 use borrow.Author.Needs.{needs}
+use Rattle.words.specs.Word.{bytes}
 use Rattle.lists.proofs.BlockLaws.{bytes-of}
 use Rattle.lists.proofs.PartLaws.{part-end}
-use Rattle.cipher.specs.Lea.{bytes, forward}
+use Rattle.cipher.specs.Lea.{forward}
 use Rattle.cipher.specs.KeySize.{rounds}
 use Rattle.archive.proofs.MacLaws.{before-most, left-most, cmac-is, block-subkeys}
 use Rattle.archive.proofs.mac.cmac.Statement.{statement}

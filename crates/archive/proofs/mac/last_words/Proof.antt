@@ -3,7 +3,7 @@ use mathlib.Core.Path.{ap₂, _∙_}
 use native.Mathlib.Omega.{arith}
 use borrow.Author.Needs.{needs}
 use Rattle.lists.proofs.BlockLaws.{bytes-of}
-use Rattle.cipher.specs.Word.{xorWords}
+use Rattle.words.specs.Word.{xorWords}
 use Rattle.archive.proofs.MacLaws.{last-whole, last-part}
 use Rattle.archive.proofs.mac.last_words.Statement.{statement}
 use Rattle.archive.proofs.mac.last_words.Tie as tie

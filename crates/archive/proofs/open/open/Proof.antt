@@ -4,12 +4,13 @@ use Prim.Native.Nat.{ℕ, _%_, _≤_, _<_}
 use native.Mathlib.Omega.{arith}
 use borrow.Author.Needs.{needs}
 use lib.ListN.{length}
+use Rattle.words.specs.Rows.{RowsOfWords}
 use Rattle.lists.specs.Blocks.{Bytes, blockLength}
 use Rattle.lists.proofs.BlockLaws.{bytes-of}
 use Rattle.cipher.specs.Lengths.{longestCode}
 use Rattle.cipher.specs.KeySize.{keyLength}
 use Rattle.cipher.specs.Chain.{LoneSet}
-use Rattle.archive.specs.Blocks.{WordRows, Table}
+use Rattle.archive.specs.Blocks.{Table}
 use Rattle.cipher.proofs.KeySizeLaws.{found-length}
 use Rattle.cipher.proofs.AnswerLaws.{text-known}
 use Rattle.archive.proofs.AnswerLaws.{set-done, open-1, open-set, open-7, open-8, open-9}
@@ -56,7 +57,7 @@ few-is c =
     (texts i .0) (texts i .1) _ _ _ _ (r .key-rows .ensures) (c .before .before .before .before .before .decodings .ensures) last (c .before .padding .ensures) (c .if4 .left)
 
 -- what the functions on blocks ask for
-ready : (c : tie.After-decodings) → WordRows (c .before .before .key-rows .result) × Table (c .decodings .last .1 .0)
+ready : (c : tie.After-decodings) → RowsOfWords (c .before .before .key-rows .result) × Table (c .decodings .last .1 .0)
 ready c =
     let i = c .before .before .before .before .before .before in
     let q = i .before .before .before .before .before .before .before .before .before .before .before .before in

@@ -10,7 +10,7 @@ use Rattle.lists.specs.Blocks.{Bytes, zeros, cut}
 use Rattle.lists.proofs.PartLaws.{part-end}
 use Rattle.lists.proofs.BlockLaws.{bytes-of, bytes-drop, block-zeros}
 use Rattle.cipher.specs.KeySize.{rounds}
-use Rattle.cipher.specs.Schedule.{words4}
+use Rattle.words.specs.Word.{words4}
 use Rattle.cipher.specs.Lea as L
 use Rattle.cipher.specs.Cmac as C
 use Rattle.cipher.proofs.KeySizeLaws.{rounds-le, rounds-fours}

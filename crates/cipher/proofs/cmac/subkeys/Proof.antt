@@ -2,6 +2,7 @@
 use mathlib.Core.Path.{sym, ap, _∙_}
 use borrow.Author.Needs.{needs}
 use Rattle.cipher.specs.KeySize.{rounds}
+use Rattle.words.specs.Word.{bytes}
 use Rattle.cipher.specs.Lea as L
 use Rattle.cipher.specs.Cmac as C
 use Rattle.cipher.proofs.LeaLaws.{words-zeros}
@@ -13,7 +14,7 @@ unfolding L.firstRounds C.subkey1 C.subkey2
 returns c =
     let a = c .before .before .before .before .args in
     let lea = c .before .before .before .encipher .ensures ∙ ap (L.forward (a .rows) (rounds (a .size))) (sym words-zeros) in
-    let k = c .before .double .ensures ∙ ap C.double (c .before .before .bytes .ensures ∙ ap L.bytes lea) in
+    let k = c .before .double .ensures ∙ ap C.double (c .before .before .bytes .ensures ∙ ap bytes lea) in
     (k, c .double2 .ensures ∙ ap C.double k)
 
 pub subkeys-spec : {M : Type 1} → statement M

@@ -9,7 +9,7 @@ use lib.ListN.{getD}
 use Rattle.lists.specs.Refusals.{first}
 use Rattle.cipher.specs.Lea.{keyRows}
 use Rattle.cipher.specs.KeySize.{keyLength, rounds}
-use Rattle.cipher.specs.Schedule.{blank}
+use Rattle.words.specs.Rows.{blank}
 use Rattle.cipher.specs.declared.size.KeySize.{KeySize}
 use Rattle.cipher.proofs.KeySizeLaws.{found-length, rounds-le, rounds-more}
 use Rattle.cipher.proofs.AnswerLaws.{key-refused, key-taken}

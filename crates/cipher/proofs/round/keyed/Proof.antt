@@ -1,6 +1,6 @@
 -- `round::keyed` meets its contract.
 use borrow.Author.Needs.{needs}
-use Rattle.cipher.specs.Word.{add, xor}
+use Rattle.words.specs.Word.{add, xor}
 use Rattle.cipher.specs.Lea.{keyed}
 use Rattle.cipher.proofs.round.keyed.Statement.{statement}
 use Rattle.cipher.proofs.round.keyed.Tie as tie

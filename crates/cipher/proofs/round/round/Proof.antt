@@ -3,7 +3,7 @@ use mathlib.Core.Path.{ap, _∙_}
 use mathlib.Core.List.{[], _∷_}
 use borrow.Author.Needs.{needs}
 use lib.ListN.{getD}
-use Rattle.cipher.specs.Word.{rol, ror}
+use Rattle.words.specs.Word.{rol, ror}
 use Rattle.cipher.specs.Lea.{round}
 use Rattle.cipher.proofs.round.round.Statement.{statement}
 use Rattle.cipher.proofs.round.round.Tie as tie

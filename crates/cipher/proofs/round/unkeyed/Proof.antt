@@ -4,9 +4,9 @@ use Prim.Native.Nat.{ℕ}
 use native.Mathlib.Omega.{arith}
 use borrow.Author.Needs.{needs}
 use lib.Bits.{bitXor, xor-lt}
-use Rattle.cipher.specs.Word.{xor}
+use Rattle.words.specs.Word.{xor}
 use Rattle.cipher.specs.Lea.{unkeyed}
-use Rattle.cipher.proofs.WordLaws.{sub-only}
+use Rattle.words.proofs.WordLaws.{sub-only}
 use Rattle.cipher.proofs.round.unkeyed.Statement.{statement}
 use Rattle.cipher.proofs.round.unkeyed.Tie as tie
 

@@ -1,7 +1,7 @@
 -- `schedule::mixed` meets its contract.
 use native.Mathlib.Nat.{zero-add}
 use borrow.Author.Needs.{needs}
-use Rattle.cipher.specs.Word.{add}
+use Rattle.words.specs.Word.{add}
 use Rattle.cipher.specs.Schedule.{mixed}
 use Rattle.cipher.proofs.schedule.mixed.Statement.{statement}
 use Rattle.cipher.proofs.schedule.mixed.Tie as tie

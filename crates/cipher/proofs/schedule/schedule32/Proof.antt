@@ -6,8 +6,8 @@ use native.Mathlib.Omega.{arith}
 use borrow.Author.Needs.{needs}
 use lib.ListN.{length, getD}
 use Rattle.lists.specs.Tabulation.{tab}
-use Rattle.cipher.specs.Word.{turnLeft}
-use Rattle.cipher.specs.Schedule.{place, words4, words8, step32, row32, stepped, rowsOf, filled, mixedRow}
+use Rattle.words.specs.Word.{turnLeft, words4}
+use Rattle.cipher.specs.Schedule.{place, words8, step32, row32, stepped, rowsOf, filled, mixedRow}
 use Rattle.cipher.proofs.ScheduleLaws.{deltas, deltas-more, stored}
 use Rattle.cipher.proofs.Schedule32.{queued, row-front, queue-more}
 use Rattle.cipher.proofs.schedule.schedule32.Statement.{statement}

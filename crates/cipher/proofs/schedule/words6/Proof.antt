@@ -2,7 +2,8 @@
 use mathlib.Core.List.{[], _∷_}
 use borrow.Author.Needs.{needs}
 use lib.ListN.{getD}
-use Rattle.cipher.specs.Schedule.{words4, words6}
+use Rattle.words.specs.Word.{words4}
+use Rattle.cipher.specs.Schedule.{words6}
 use Rattle.cipher.proofs.schedule.words6.Statement.{statement}
 use Rattle.cipher.proofs.schedule.words6.Tie as tie
 

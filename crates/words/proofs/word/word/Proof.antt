@@ -1,8 +1,8 @@
 -- `word::word` meets its contract.
 use borrow.Author.Needs.{needs}
-use Rattle.cipher.specs.Word as W
-use Rattle.cipher.proofs.word.word.Statement.{statement}
-use Rattle.cipher.proofs.word.word.Tie as tie
+use Rattle.words.specs.Word as W
+use Rattle.words.proofs.word.word.Statement.{statement}
+use Rattle.words.proofs.word.word.Tie as tie
 
 pub word-spec : {M : Type 1} → statement M
 unfolding W.word

@@ -1,9 +1,9 @@
 -- `word::words` meets its contract.
 use mathlib.Core.List.{[], _∷_}
 use borrow.Author.Needs.{needs}
-use Rattle.cipher.specs.Schedule.{words4}
-use Rattle.cipher.proofs.word.words.Statement.{statement}
-use Rattle.cipher.proofs.word.words.Tie as tie
+use Rattle.words.specs.Word.{words4}
+use Rattle.words.proofs.word.words.Statement.{statement}
+use Rattle.words.proofs.word.words.Tie as tie
 
 returns : tie.Need-returns
 unfolding words4

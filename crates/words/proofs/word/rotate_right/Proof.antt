@@ -1,9 +1,9 @@
 -- `word::rotate_right` meets its contract.
 use native.Mathlib.Omega.{arith}
 use borrow.Author.Needs.{needs}
-use Rattle.cipher.proofs.WordLaws.{rotate-right-is}
-use Rattle.cipher.proofs.word.rotate_right.Statement.{statement}
-use Rattle.cipher.proofs.word.rotate_right.Tie as tie
+use Rattle.words.proofs.WordLaws.{rotate-right-is}
+use Rattle.words.proofs.word.rotate_right.Statement.{statement}
+use Rattle.words.proofs.word.rotate_right.Tie as tie
 
 returns : tie.Need-returns
 returns c = rotate-right-is _ _ (omega arith) (omega arith)

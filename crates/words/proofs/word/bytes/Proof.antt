@@ -2,13 +2,12 @@
 use mathlib.Core.List.{[], _∷_}
 use borrow.Author.Needs.{needs}
 use lib.ListN.{getD}
-use Rattle.cipher.specs.Word.{bytesOf}
-use Rattle.cipher.specs.Lea as L
-use Rattle.cipher.proofs.word.bytes.Statement.{statement}
-use Rattle.cipher.proofs.word.bytes.Tie as tie
+use Rattle.words.specs.Word as W
+use Rattle.words.proofs.word.bytes.Statement.{statement}
+use Rattle.words.proofs.word.bytes.Tie as tie
 
 returns : tie.Need-returns
-unfolding L.bytes bytesOf
+unfolding W.bytes W.bytesOf
 returns c =
     let a = c .before .before .before .bytes-of .ensures in
     let b = c .before .before .bytes-of2 .ensures in

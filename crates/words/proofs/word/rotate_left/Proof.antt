@@ -1,9 +1,9 @@
 -- `word::rotate_left` meets its contract.
 use native.Mathlib.Omega.{arith}
 use borrow.Author.Needs.{needs}
-use Rattle.cipher.proofs.WordLaws.{rotate-left-is}
-use Rattle.cipher.proofs.word.rotate_left.Statement.{statement}
-use Rattle.cipher.proofs.word.rotate_left.Tie as tie
+use Rattle.words.proofs.WordLaws.{rotate-left-is}
+use Rattle.words.proofs.word.rotate_left.Statement.{statement}
+use Rattle.words.proofs.word.rotate_left.Tie as tie
 
 returns : tie.Need-returns
 returns c = rotate-left-is _ _ (omega arith) (omega arith)

@@ -3,9 +3,7 @@ ghost use mathlib.Core.Path.{_≡_};
 ghost use Prim.Native.Nat.{_+_, _*_, _≤_};
 ghost use lib.ListN.{length};
 ghost use Rattle.lists.specs.Blocks.{blockLength};
-ghost use Rattle.cipher.specs.Word as W;
-ghost use Rattle.cipher.specs.Schedule.{words4};
-ghost use Rattle.cipher.specs.Lea as L;
+ghost use Rattle.words.specs.Word as W;
 
 // x turned left by n, a count taken mod 32.
 pub fn rotate_left(x: u32, n: usize) -> u32
@@ -41,7 +39,7 @@ pub fn word_at(s: &[u8], i: usize) -> u32
 // The four words of the 16 bytes of s.
 pub fn words(s: &[u8]) -> [u32; 4]
     requires { ⌜ blockLength ≤ length (now s) ⌝ }
-    ensures { λ r. ⌜ r ≡ words4 (now (s .entry)) ⌝ }
+    ensures { λ r. ⌜ r ≡ W.words4 (now (s .entry)) ⌝ }
 {
     [word_at(s, 0), word_at(s, 4), word_at(s, 8), word_at(s, 12)]
 }
@@ -60,7 +58,7 @@ pub fn bytes_of(w: u32) -> [u8; 4]
 
 // The bytes of four words.
 pub fn bytes(x: [u32; 4]) -> [u8; 16]
-    ensures { λ r. ⌜ r ≡ L.bytes x ⌝ }
+    ensures { λ r. ⌜ r ≡ W.bytes x ⌝ }
 {
     let a = bytes_of(x[0]);
     let b = bytes_of(x[1]);

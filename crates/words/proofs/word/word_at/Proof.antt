@@ -1,8 +1,8 @@
 -- `word::word_at` meets its contract.
 use borrow.Author.Needs.{needs}
-use Rattle.cipher.specs.Word.{wordAt}
-use Rattle.cipher.proofs.word.word_at.Statement.{statement}
-use Rattle.cipher.proofs.word.word_at.Tie as tie
+use Rattle.words.specs.Word.{wordAt}
+use Rattle.words.proofs.word.word_at.Statement.{statement}
+use Rattle.words.proofs.word.word_at.Tie as tie
 
 returns : tie.Need-returns
 unfolding wordAt

@@ -1,8 +1,8 @@
 -- `word::xor` meets its contract.
 use borrow.Author.Needs.{needs}
-use Rattle.cipher.specs.Word.{xor, xorWords}
-use Rattle.cipher.proofs.word.xor.Statement.{statement}
-use Rattle.cipher.proofs.word.xor.Tie as tie
+use Rattle.words.specs.Word.{xor, xorWords}
+use Rattle.words.proofs.word.xor.Statement.{statement}
+use Rattle.words.proofs.word.xor.Tie as tie
 
 pub xor-spec : {M : Type 1} → statement M
 unfolding xor xorWords

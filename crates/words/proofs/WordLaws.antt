@@ -9,7 +9,7 @@ use lib.Arith.{digits-lt}
 use lib.Pow.{mod-pow-add, shl-shr, shr-lt, pow-pos, pow-add, high, low, split}
 use lib.Bits.{bitOr, bitXor, or-self, or-shifted, or-shifted-r, xor-lt, xor-block}
 use Rattle.lists.proofs.XorLaws.{xor-cancel}
-use Rattle.cipher.specs.Word.{add, sub, xor, turnLeft, turnRight, word, bytesOf}
+use Rattle.words.specs.Word.{add, sub, xor, turnLeft, turnRight, word, bytesOf}
 
 -- what a shift to the left leaves of a word
 shl-part : (x k : ℕ) → k ≤ 32 → (x * 2 ^ k) % 2 ^ 32 ≡ x % 2 ^ (32 - k) * 2 ^ k

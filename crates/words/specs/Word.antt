@@ -1,7 +1,7 @@
 -- 32-bit words as numbers below 2 ^ 32 (document 01, "LEA"; document 001, notation): sum and difference mod 2 ^ 32, xor,
 -- rotations, and the four bytes of a word, lowest first.
 use Prim.Native.Nat.{ℕ, _+_, _*_, _/_, _%_, _-_, _^_}
-use mathlib.Core.List.{List, [], _∷_}
+use mathlib.Core.List.{List, [], _∷_, _++_}
 use lib.ListN.{getD}
 use lib.Bits.{bitXor}
 
@@ -44,3 +44,10 @@ wordAt b i = word (getD b i 0) (getD b (i + 1) 0) (getD b (i + 2) 0) (getD b (i 
 -- four words xored with four
 unfoldable pub xorWords : List ℕ → List ℕ → List ℕ
 xorWords x y = xor (getD x 0 0) (getD y 0 0) ∷ xor (getD x 1 0) (getD y 1 0) ∷ xor (getD x 2 0) (getD y 2 0) ∷ xor (getD x 3 0) (getD y 3 0) ∷ []
+
+-- the four words of 16 bytes, and the bytes of four words
+unfoldable pub words4 : List ℕ → List ℕ
+words4 b = wordAt b 0 ∷ wordAt b 4 ∷ wordAt b 8 ∷ wordAt b 12 ∷ []
+
+unfoldable pub bytes : List ℕ → List ℕ
+bytes x = bytesOf (getD x 0 0) ++ bytesOf (getD x 1 0) ++ bytesOf (getD x 2 0) ++ bytesOf (getD x 3 0)
