@@ -1,0 +1,4 @@
+pub mod PaddingLaws
+pub mod HashLaws
+pub mod DigestLaws
+pub mod Vectors
