@@ -1,0 +1,3 @@
+pub mod MessageLaws
+pub mod RowLaws
+pub mod Vectors

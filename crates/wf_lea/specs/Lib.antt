@@ -1,0 +1,2 @@
+pub mod WfLea
+pub mod Vectors
