@@ -11,16 +11,16 @@ use Rattle.lists.specs.Tabulation.{chunks}
 use Rattle.lists.specs.Blocks.{Bytes}
 use Rattle.lists.proofs.ChunkLaws.{chunks-more}
 use Rattle.lists.proofs.PartLaws.{put-more}
-use Rattle.cipher.specs.KeySize.{rounds, sizeOfKey}
-use Rattle.cipher.specs.Lea.{keyRows}
+use Rattle.cipher.specs.KeySize.{rounds}
+use Rattle.cipher.specs.Schedules.{Named, keyRows}
 use Rattle.cipher.specs.Lea.{decipher}
 use Rattle.cipher.specs.Coding.{Permutation, FirstPermutations, LowSet, codingAt, setOf, decoded, inverted}
 use Rattle.cipher.specs.Images.{imagesOf, imaged}
 use Rattle.cipher.specs.Chain.{LoneSet}
 use Rattle.cipher.specs.Answers.{badText}
 use Rattle.cipher.specs.declared.size.KeySize.{KeySize}
-use Rattle.cipher.specs.declared.size.SizeFound.the-variants.{Found}
-use Rattle.cipher.proofs.ScheduleLaws.{key-words}
+use Rattle.cipher.specs.declared.schedules.Schedule.{Schedule}
+use Rattle.cipher.proofs.SchedulesLaws.{key-words}
 use Rattle.cipher.proofs.CodingLaws.{block-decoded}
 use Rattle.cipher.proofs.InverseLaws.{length-inverted, low-inverted}
 use Rattle.cipher.proofs.ImageLaws.{length-images, bytes-images}
@@ -46,46 +46,46 @@ codes-ready s t v e = rw e (omega (arith, length-inverted 32 s), low-inverted s 
 pub table-ready : (s t : List ℕ) → LoneSet s → t ≡ imagesOf (inverted 32 s) → Table t
 table-ready s t v e = rw e (length-images (inverted 32 s), bytes-images (inverted 32 s) (low-inverted s (v .codings)))
 
-pub rows-ready : (z : KeySize) (key : List ℕ) (rows : List (List ℕ)) → rows ≡ keyRows z key → Bytes key → RowsOfWords rows
-rows-ready z key rows e h = rw e (key-words z key h)
+pub rows-ready : (k : Schedule) (z : KeySize) (key : List ℕ) (rows : List (List ℕ)) → rows ≡ keyRows k z key → Bytes key → RowsOfWords rows
+rows-ready k z key rows e h = rw e (key-words k z key h)
 
-module _ (key set iv sealed out : List ℕ) (z : KeySize) (ek : sizeOfKey (length key) ≡ Found z) (v : LoneSet set) (l : length iv ≡ 16)
+module _ (s : ℕ) (key set iv sealed out : List ℕ) (j : Schedule) (z : KeySize) (ek : Named s key j z) (v : LoneSet set) (l : length iv ≡ 16)
     (d : badText (length sealed) ≡ false) (w : length sealed ≤ length out) where
   -- block k, opened, and how many blocks come before the last one
   block : ℕ → List ℕ
-  block = openedBlock (keyRows z key) (rounds z) (decoded (setOf set)) iv sealed
+  block = openedBlock (keyRows j z key) (rounds z) (decoded (setOf set)) iv sealed
 
   before : ℕ
   before = length sealed / 16 - 1
 
   size : (k : ℕ) → length (block k) ≡ 16
   unfolding block
-  size k = block-opened (keyRows z key) (rounds z) (decoded (setOf set)) (block-decoded (setOf set) (v .codings)) iv sealed k .size
+  size k = block-opened (keyRows j z key) (rounds z) (decoded (setOf set)) (block-decoded (setOf set) (v .codings)) iv sealed k .size
 
-  text-is : openedText (decipher z key) (setOf set) iv sealed ≡ chunks before block ++ block before
+  text-is : openedText (decipher j z key) (setOf set) iv sealed ≡ chunks before block ++ block before
   unfolding block before
   text-is =
       let t = text-known (length sealed) d in
       let e : length sealed / 16 ≡ length sealed / 16 - 1 + 1 = omega (arith, t .0, t .2) in
-      opened-text (keyRows z key) (rounds z) (setOf set) iv sealed
-      ∙ ap (λ (n : ℕ). chunks n (openedBlock (keyRows z key) (rounds z) (decoded (setOf set)) iv sealed)) e
-      ∙ chunks-more (length sealed / 16 - 1) (openedBlock (keyRows z key) (rounds z) (decoded (setOf set)) iv sealed)
+      opened-text (keyRows j z key) (rounds z) (setOf set) iv sealed
+      ∙ ap (λ (n : ℕ). chunks n (openedBlock (keyRows j z key) (rounds z) (decoded (setOf set)) iv sealed)) e
+      ∙ chunks-more (length sealed / 16 - 1) (openedBlock (keyRows j z key) (rounds z) (decoded (setOf set)) iv sealed)
 
-  module _ (hi : Bytes iv) (hs : Bytes sealed) (rows : List (List ℕ)) (table last : List ℕ) (p : ℕ) (er : rows ≡ keyRows z key) (et : table ≡ imagesOf (inverted 32 set))
+  module _ (hi : Bytes iv) (hs : Bytes sealed) (rows : List (List ℕ)) (table last : List ℕ) (p : ℕ) (er : rows ≡ keyRows j z key) (et : table ≡ imagesOf (inverted 32 set))
       (el : last ≡ openedBlock rows (rounds z) (imaged table) iv sealed (length sealed / 16 - 1)) (ep : p ≡ cond (endsPadded last) (lastByte last) 0) where
     same : openedBlock rows (rounds z) (imaged table) iv sealed ≡ block
     unfolding block
     same =
         ap₂ (λ (r : List (List ℕ)) (t : List ℕ). openedBlock r (rounds z) (imaged t) iv sealed) er et
-        ∙ opened-alike (keyRows z key) (rounds z) (imaged (imagesOf (inverted 32 set))) (decoded (setOf set)) (decoded-imaged set) iv sealed hi hs
+        ∙ opened-alike (keyRows j z key) (rounds z) (imaged (imagesOf (inverted 32 set))) (decoded (setOf set)) (decoded-imaged set) iv sealed hi hs
 
     last-is : last ≡ block before
     unfolding before
     last-is = el ∙ ap (λ (g : ℕ → List ℕ). g (length sealed / 16 - 1)) same
 
-    pub open-bad : p ≡ 0 → openAnswer key set iv sealed out ≡ ((11, 0), out)
+    pub open-bad : p ≡ 0 → openAnswer s key set iv sealed out ≡ ((11, 0), out)
     open-bad h =
-        open-11 key set iv sealed out z ek v l d w
+        open-11 s key set iv sealed out j z ek v l d w
         (ap endsPadded text-is ∙ ends-text (chunks before block) (block before) (size before) ∙ ap endsPadded (sym last-is) ∙ padding-none last p ep h)
 
     module _ (h : p ≡ 0 → ⊥) where
@@ -95,7 +95,7 @@ module _ (key set iv sealed out : List ℕ) (z : KeySize) (ek : sizeOfKey (lengt
       pub few : p ≤ 16
       few = omega (arith, some .1, some .2)
 
-      message : unpadded (openedText (decipher z key) (setOf set) iv sealed) ≡ chunks before block ++ take (16 - p) last
+      message : unpadded (openedText (decipher j z key) (setOf set) iv sealed) ≡ chunks before block ++ take (16 - p) last
       message =
           let b = ap lastByte last-is in
           let e : 16 - lastByte (block before) ≡ 16 - p = omega (arith, b, some .1) in
@@ -103,7 +103,7 @@ module _ (key set iv sealed out : List ℕ) (z : KeySize) (ek : sizeOfKey (lengt
           ∙ unpadded-text (chunks before block) (block before) (size before) (omega (arith, b, some .2))
           ∙ ap₂ {C = List ℕ} (λ (n : ℕ) (b : List ℕ). chunks before block ++ take n b) e (sym last-is)
 
-      message-length : length (unpadded (openedText (decipher z key) (setOf set) iv sealed)) ≡ length sealed - p
+      message-length : length (unpadded (openedText (decipher j z key) (setOf set) iv sealed)) ≡ length sealed - p
       unfolding before
       message-length =
           let t = text-known (length sealed) d in
@@ -123,7 +123,7 @@ module _ (key set iv sealed out : List ℕ) (z : KeySize) (ek : sizeOfKey (lengt
 
       pub open-made : (o q : List ℕ) → o ≡ chunks (length sealed / 16 - 1) (openedBlock rows (rounds z) (imaged table) iv sealed) ++ drop (16 * (length sealed / 16 - 1)) out
           → q ≡ take (16 * (length sealed / 16 - 1)) o ++ take (16 - p) last ++ drop (16 * (length sealed / 16 - 1) + (16 - p)) o
-          → ((0, length sealed - p), q) ≡ openAnswer key set iv sealed out
+          → ((0, length sealed - p), q) ≡ openAnswer s key set iv sealed out
       unfolding before
       open-made o q eo eq =
           let t = text-known (length sealed) d in
@@ -135,5 +135,5 @@ module _ (key set iv sealed out : List ℕ) (z : KeySize) (ek : sizeOfKey (lengt
                 (eo ∙ ap (λ (g : ℕ → List ℕ). chunks before g ++ drop (16 * before) out) same)
                 ∙ ap₂ {C = List ℕ} (λ (m : List ℕ) (n : ℕ). m ++ drop n out) (sym message) (e ∙ sym message-length)) i,
           ))
-          ∙ sym (open-done key set iv sealed out z ek v l d w
+          ∙ sym (open-done s key set iv sealed out j z ek v l d w
           (ap endsPadded text-is ∙ ends-text (chunks before block) (block before) (size before) ∙ ap endsPadded (sym last-is) ∙ some .0))

@@ -15,7 +15,7 @@ use Rattle.cipher.specs.Cbc.{cbcDeciphered}
 use Rattle.cipher.specs.Coding.{Set, setOf, decoded}
 use Rattle.cipher.specs.Chain.{setTests}
 use Rattle.cipher.specs.Refusal.{numberOf}
-use Rattle.cipher.specs.Answers.{keyTests, keySize, blockTests, textTests, roomTests}
+use Rattle.cipher.specs.Answers.{keyTests, scheduleOf, keySize, blockTests, textTests, roomTests}
 use Rattle.archive.specs.declared.check.Checked.{Checked}
 use Rattle.archive.specs.declared.check.Checked.the-variants.{Valid, Invalid, Refused}
 
@@ -40,20 +40,20 @@ paddingTests t = (not (endsPadded t), 11) ∷ []
 unfoldable pub unpadded : List ℕ → List ℕ
 unpadded t = take (length t - lastByte t) t
 
--- refusals 1 of the key, 2 and 3 of the set, 7 of the IV, 8 of the sealed text, and 9 of a buffer shorter than it
-abbrev pub openTests : List ℕ → List ℕ → List ℕ → List ℕ → List ℕ → List (Bool × ℕ)
-openTests key set iv sealed out = keyTests key ++ (setTests set ++ (blockTests iv ++ (textTests sealed ++ roomTests (length sealed) out)))
+-- refusals 34 of the schedule s, 1 of the key, 2 and 3 of the set, 7 of the IV, 8 of the sealed text, and 9 of a buffer shorter than it
+abbrev pub openTests : ℕ → List ℕ → List ℕ → List ℕ → List ℕ → List ℕ → List (Bool × ℕ)
+openTests s key set iv sealed out = keyTests s key ++ (setTests set ++ (blockTests iv ++ (textTests sealed ++ roomTests (length sealed) out)))
 
 -- and, after all of these, 11 of the text that is opened
-abbrev pub allOpenTests : List ℕ → List ℕ → List ℕ → List ℕ → List ℕ → List (Bool × ℕ)
-allOpenTests key set iv sealed out =
-    openTests key set iv sealed out ++ paddingTests (openedText (decipher (keySize key) key) (setOf set) iv sealed)
+abbrev pub allOpenTests : ℕ → List ℕ → List ℕ → List ℕ → List ℕ → List ℕ → List (Bool × ℕ)
+allOpenTests s key set iv sealed out =
+    openTests s key set iv sealed out ++ paddingTests (openedText (decipher (scheduleOf s) (keySize key) key) (setOf set) iv sealed)
 
 -- opening into a buffer: the number of a refusal or 0, the length of the message, and what the buffer then holds
-unfoldable pub openAnswer : List ℕ → List ℕ → List ℕ → List ℕ → List ℕ → (ℕ × ℕ) × List ℕ
-openAnswer key set iv sealed out =
-    let t = openedText (decipher (keySize key) key) (setOf set) iv sealed in
-    first (allOpenTests key set iv sealed out) (λ q. ((q, 0), out))
+unfoldable pub openAnswer : ℕ → List ℕ → List ℕ → List ℕ → List ℕ → List ℕ → (ℕ × ℕ) × List ℕ
+openAnswer s key set iv sealed out =
+    let t = openedText (decipher (scheduleOf s) (keySize key) key) (setOf set) iv sealed in
+    first (allOpenTests s key set iv sealed out) (λ q. ((q, 0), out))
     ((0, length (unpadded t)), unpadded t ++ drop (length (unpadded t)) out)
 
 -- ---- checking
@@ -72,11 +72,11 @@ checkedTold (Refused q) = (numberOf q, 0)
 abbrev pub messageTests : List ℕ → List (Bool × ℕ)
 messageTests m = (ltb longestMessage (length m), 8) ∷ []
 
-abbrev pub checkTests : List ℕ → List ℕ → List ℕ → List ℕ → List (Bool × ℕ)
-checkTests key set message tag = keyTests key ++ (setTests set ++ (blockTests tag ++ messageTests message))
+abbrev pub checkTests : ℕ → List ℕ → List ℕ → List ℕ → List ℕ → List (Bool × ℕ)
+checkTests s key set message tag = keyTests s key ++ (setTests set ++ (blockTests tag ++ messageTests message))
 
 -- checking: Valid where the tag, decoded by set r, is the message's CMAC
-unfoldable pub checkAnswer : List ℕ → List ℕ → List ℕ → List ℕ → ℕ × ℕ
-checkAnswer key set message tag =
-    first (checkTests key set message tag) (λ q. (q, 0))
-    (0, cond (sameBlock (decoded (setOf set) tag) (cmac (encipher (keySize key) key) message)) 1 0)
+unfoldable pub checkAnswer : ℕ → List ℕ → List ℕ → List ℕ → List ℕ → ℕ × ℕ
+checkAnswer s key set message tag =
+    first (checkTests s key set message tag) (λ q. (q, 0))
+    (0, cond (sameBlock (decoded (setOf set) tag) (cmac (encipher (scheduleOf s) (keySize key) key) message)) 1 0)

@@ -9,7 +9,9 @@ use cipher::chain::check_set;
 use cipher::lengths;
 use cipher::refusal::Outcome;
 use cipher::refusal::Refusal;
-use cipher::schedule::key_rows;
+use cipher::schedules::Schedule;
+use cipher::schedules::ScheduleFound;
+use cipher::schedules::key_rows;
 use cipher::size::KeySize;
 use cipher::size::SizeFound;
 
@@ -35,9 +37,12 @@ fn same(a: [u8; 16], b: &[u8]) -> bool
 
 // Whether a tag, coded by set r, is that of a message under a key. The message's own tag is coded
 // and compared.
-pub fn check(key: &[u8], set: &[u8], message: &[u8], tag: &[u8]) -> Checked
-    ensures { λ r. ⌜ R.checkedTold r ≡ R.checkAnswer (now (key .entry)) (now (set .entry)) (now (message .entry)) (now (tag .entry)) ⌝ }
+pub fn check(schedule: u8, key: &[u8], set: &[u8], message: &[u8], tag: &[u8]) -> Checked
+    ensures { λ r. ⌜ R.checkedTold r ≡ R.checkAnswer schedule (now (key .entry)) (now (set .entry)) (now (message .entry)) (now (tag .entry)) ⌝ }
 {
+    let ScheduleFound::Numbered(named) = Schedule::of_number(schedule) else {
+        return Checked::Refused(Refusal::ScheduleNumber);
+    };
     let SizeFound::Found(size) = KeySize::of_key_len(key.len()) else {
         return Checked::Refused(Refusal::KeyLength);
     };
@@ -50,7 +55,7 @@ pub fn check(key: &[u8], set: &[u8], message: &[u8], tag: &[u8]) -> Checked
     if lengths::LONGEST_MESSAGE < message.len() {
         return Checked::Refused(Refusal::MessageLength);
     }
-    let mac = cmac(key_rows(size, key), size, message);
+    let mac = cmac(key_rows(named, size, key), size, message);
     if same(code_block(set, mac), tag) {
         return Checked::Valid;
     }

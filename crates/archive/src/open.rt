@@ -21,7 +21,9 @@ use cipher::lengths;
 use cipher::refusal::Outcome;
 use cipher::refusal::Refusal;
 use cipher::refusal::Written;
-use cipher::schedule::key_rows;
+use cipher::schedules::Schedule;
+use cipher::schedules::ScheduleFound;
+use cipher::schedules::key_rows;
 use cipher::size::KeySize;
 use cipher::size::SizeFound;
 
@@ -47,9 +49,19 @@ fn decodings(set: &[u8], table: &mut [u8])
 
 // A sealed file opened under a key, with its set r and its IV: the message into the front of out.
 // The padding is judged before anything is written.
-pub fn open(key: &[u8], set: &[u8], iv: &[u8], sealed: &[u8], out: &mut [u8]) -> Written
-    ensures { λ r. ⌜ (writtenOf r, now (out .exit)) ≡ R.openAnswer (now (key .entry)) (now (set .entry)) (now (iv .entry)) (now (sealed .entry)) (now (out .entry)) ⌝ }
+pub fn open(
+    schedule: u8,
+    key: &[u8],
+    set: &[u8],
+    iv: &[u8],
+    sealed: &[u8],
+    out: &mut [u8],
+) -> Written
+    ensures { λ r. ⌜ (writtenOf r, now (out .exit)) ≡ R.openAnswer schedule (now (key .entry)) (now (set .entry)) (now (iv .entry)) (now (sealed .entry)) (now (out .entry)) ⌝ }
 {
+    let ScheduleFound::Numbered(named) = Schedule::of_number(schedule) else {
+        return Written::Refused(Refusal::ScheduleNumber);
+    };
     let SizeFound::Found(size) = KeySize::of_key_len(key.len()) else {
         return Written::Refused(Refusal::KeyLength);
     };
@@ -66,7 +78,7 @@ pub fn open(key: &[u8], set: &[u8], iv: &[u8], sealed: &[u8], out: &mut [u8]) ->
     if out.len() < n {
         return Written::Refused(Refusal::ShortBuffer);
     }
-    let rows = key_rows(size, key);
+    let rows = key_rows(named, size, key);
     let mut table = [0u8; lengths::IMAGES];
     decodings(set, &mut table);
     let k = n / lengths::BLOCK - 1;

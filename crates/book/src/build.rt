@@ -1,5 +1,6 @@
 // Building a book, or the tables of one round of it, from a key and a chain (document 01, "Book"; 02,
-// 2026-05). Refusals 1 to 5 are those of key and chain; 9 is a buffer shorter than what is written.
+// 2026-05). Refusals 34 and 1 to 5 are those of schedule, key and chain; 9 is a buffer shorter than what
+// is written.
 ghost use mathlib.Core.Path.{_≡_};
 ghost use Prim.Native.Nat.{_+_, _*_};
 ghost use lib.ListN.{length};
@@ -18,7 +19,9 @@ use cipher::cmac::subkeys;
 use cipher::lengths;
 use cipher::refusal::Outcome;
 use cipher::refusal::Refusal;
-use cipher::schedule::key_rows;
+use cipher::schedules::Schedule;
+use cipher::schedules::ScheduleFound;
+use cipher::schedules::key_rows;
 use cipher::size::KeySize;
 use cipher::size::SizeFound;
 
@@ -42,9 +45,12 @@ fn fill(size: KeySize, chain: &[u8], rows: [[u32; 6]; 32], out: &mut [u8])
 }
 
 // The book of a key and a chain, into the front of out: the key's length, then the body.
-pub fn build(key: &[u8], chain: &[u8], out: &mut [u8]) -> Outcome
-    ensures { λ r. ⌜ (outcomeOf r, now (out .exit)) ≡ buildAnswer (now (key .entry)) (now (chain .entry)) (now (out .entry)) ⌝ }
+pub fn build(schedule: u8, key: &[u8], chain: &[u8], out: &mut [u8]) -> Outcome
+    ensures { λ r. ⌜ (outcomeOf r, now (out .exit)) ≡ buildAnswer schedule (now (key .entry)) (now (chain .entry)) (now (out .entry)) ⌝ }
 {
+    let ScheduleFound::Numbered(named) = Schedule::of_number(schedule) else {
+        return Outcome::Refused(Refusal::ScheduleNumber);
+    };
     let SizeFound::Found(size) = KeySize::of_key_len(key.len()) else {
         return Outcome::Refused(Refusal::KeyLength);
     };
@@ -56,16 +62,19 @@ pub fn build(key: &[u8], chain: &[u8], out: &mut [u8]) -> Outcome
     if out.len() < end {
         return Outcome::Refused(Refusal::ShortBuffer);
     }
-    let rows = key_rows(size, key);
+    let rows = key_rows(named, size, key);
     out[0] = size.key_len() as u8;
     fill(size, chain, rows, &mut out[lengths::BODY..end]);
     Outcome::Done
 }
 
 // The tables of round l of that book, l taken mod its rounds, into the front of out.
-pub fn build_round(key: &[u8], chain: &[u8], l: usize, out: &mut [u8]) -> Outcome
-    ensures { λ r. ⌜ (outcomeOf r, now (out .exit)) ≡ buildRoundAnswer (now (key .entry)) (now (chain .entry)) l (now (out .entry)) ⌝ }
+pub fn build_round(schedule: u8, key: &[u8], chain: &[u8], l: usize, out: &mut [u8]) -> Outcome
+    ensures { λ r. ⌜ (outcomeOf r, now (out .exit)) ≡ buildRoundAnswer schedule (now (key .entry)) (now (chain .entry)) l (now (out .entry)) ⌝ }
 {
+    let ScheduleFound::Numbered(named) = Schedule::of_number(schedule) else {
+        return Outcome::Refused(Refusal::ScheduleNumber);
+    };
     let SizeFound::Found(size) = KeySize::of_key_len(key.len()) else {
         return Outcome::Refused(Refusal::KeyLength);
     };
@@ -76,7 +85,7 @@ pub fn build_round(key: &[u8], chain: &[u8], l: usize, out: &mut [u8]) -> Outcom
     if out.len() < lengths::ROUND_TABLES {
         return Outcome::Refused(Refusal::ShortBuffer);
     }
-    let rows = key_rows(size, key);
+    let rows = key_rows(named, size, key);
     let at = l % size.rounds();
     round_at(
         size,

@@ -56,15 +56,15 @@ recorded-lent bk (last-call {b} {c} {m} {new} {k} {n} old e r) s f q =
     then (ap (λ (a : Answer). (a, lastAnswer bk m k s .1)) (x .0)) (recorded-lent bk r (lastAnswer bk m k s .1) (h .0) (x .1))
 
 -- for every key, chain and buffer with which a book is built, and every record before it is begun
-pub record-built : (key ch out held : List ℕ) → Built key ch out held → (b₀ b : List ℕ) (q : ℕ)
-    → (q, b) ≡ into (recorded (beginAnswer (bookIn key held))) b₀ → RecordLikeModel key ch (bookIn key held) q b
+pub record-built : (schedule : ℕ) (key ch out held : List ℕ) → Built schedule key ch out held → (b₀ b : List ℕ) (q : ℕ)
+    → (q, b) ≡ into (recorded (beginAnswer (bookIn key held))) b₀ → RecordLikeModel schedule key ch (bookIn key held) q b
 unfolding beginAnswer
-record-built key ch out held h b₀ b q e =
+record-built schedule key ch out held h b₀ b q e =
     let bk = bookIn key held in
-    let known = built-found key ch out held h in
+    let known = built-found schedule key ch out held h in
     let s = fresh (startOf (bookBody bk)) in
     let begun = e ∙ ap (λ (a : ℕ × Session). into (recorded a) b₀) (begin-done bk _ known) in
-    let lent = lent-built key ch out held h spent s 0 (sym (over-done bk spent _ known)) in (
+    let lent = lent-built schedule key ch out held h spent s 0 (sym (over-done bk spent _ known)) in (
       ap (λ (p : ℕ × List ℕ). p .0) begun,
       λ cs rs l. lent .1 cs rs (recorded-lent bk l s (fresh-fits bk _ known) (ap (λ (p : ℕ × List ℕ). p .1) begun)),
     )

@@ -5,7 +5,7 @@ use mathlib.Core.List.{List, [], _∷_}
 use Prim.Native.Nat.{ℕ}
 use Rattle.cipher.specs.Lea.{encipher}
 use Rattle.cipher.specs.Chain.{messageSet, chainSet}
-use Rattle.cipher.specs.Answers.{keySize}
+use Rattle.cipher.specs.Answers.{scheduleOf, keySize}
 use Rattle.driver.specs.Driver.{blockAnswer, lastAnswer}
 use Rattle.claims.specs.Model.{Call, blockCall, lastCall, Answer, accepted, tag}
 use Rattle.claims.specs.Calls.{answerOf, modelAnswers}
@@ -24,6 +24,6 @@ pub data Recorded (bk : List ℕ) : List ℕ → List Call → List Answer → T
       → Recorded bk c cs rs → Recorded bk b (lastCall m k ∷ cs) (answerOf n (tag new) ∷ rs)
 
 -- a record b, of which beginning said q: it was not refused, and every list of calls on it answers as the model
-abbrev pub RecordLikeModel : List ℕ → List ℕ → List ℕ → ℕ → List ℕ → Type 0
-RecordLikeModel key ch bk q b =
-    (q ≡ 0) × ((cs : List Call) (rs : List Answer) → Recorded bk b cs rs → rs ≡ modelAnswers (encipher (keySize key) key) (messageSet ch) (chainSet ch (keyRounds key)) cs)
+abbrev pub RecordLikeModel : ℕ → List ℕ → List ℕ → List ℕ → ℕ → List ℕ → Type 0
+RecordLikeModel schedule key ch bk q b =
+    (q ≡ 0) × ((cs : List Call) (rs : List Answer) → Recorded bk b cs rs → rs ≡ modelAnswers (encipher (scheduleOf schedule) (keySize key) key) (messageSet ch) (chainSet ch (keyRounds key)) cs)

@@ -63,39 +63,55 @@ pub fn deliver_verdict(c: Checked, valid: &mut u8) -> u32
 
 // A block enciphered under a key, into out.
 #[no_mangle]
-pub extern "C" fn bowlinette_encipher(key: &[u8], block: &[u8], out: &mut [u8; 16]) -> u32
-    ensures { λ r. ⌜ (r, now (out .exit)) ≡ into (encipherAnswer (now (key .entry)) (now (block .entry))) (now (out .entry)) ⌝ }
+pub extern "C" fn bowlinette_encipher(
+    schedule: u8,
+    key: &[u8],
+    block: &[u8],
+    out: &mut [u8; 16],
+) -> u32
+    ensures { λ r. ⌜ (r, now (out .exit)) ≡ into (encipherAnswer schedule (now (key .entry)) (now (block .entry))) (now (out .entry)) ⌝ }
 {
-    deliver(cipher::lea::encipher(key, block), out)
+    deliver(cipher::lea::encipher(schedule, key, block), out)
 }
 
 // A block deciphered under a key, into out.
 #[no_mangle]
-pub extern "C" fn bowlinette_decipher(key: &[u8], block: &[u8], out: &mut [u8; 16]) -> u32
-    ensures { λ r. ⌜ (r, now (out .exit)) ≡ into (decipherAnswer (now (key .entry)) (now (block .entry))) (now (out .entry)) ⌝ }
+pub extern "C" fn bowlinette_decipher(
+    schedule: u8,
+    key: &[u8],
+    block: &[u8],
+    out: &mut [u8; 16],
+) -> u32
+    ensures { λ r. ⌜ (r, now (out .exit)) ≡ into (decipherAnswer schedule (now (key .entry)) (now (block .entry))) (now (out .entry)) ⌝ }
 {
-    deliver(cipher::lea::decipher(key, block), out)
+    deliver(cipher::lea::decipher(schedule, key, block), out)
 }
 
 // A block after the first rounds under a key, all of them where the count is more, into out.
 #[no_mangle]
 pub extern "C" fn bowlinette_first_rounds(
+    schedule: u8,
     key: &[u8],
     rounds: usize,
     block: &[u8],
     out: &mut [u8; 16],
 ) -> u32
-    ensures { λ r. ⌜ (r, now (out .exit)) ≡ into (roundsAnswer (now (key .entry)) rounds (now (block .entry))) (now (out .entry)) ⌝ }
+    ensures { λ r. ⌜ (r, now (out .exit)) ≡ into (roundsAnswer schedule (now (key .entry)) rounds (now (block .entry))) (now (out .entry)) ⌝ }
 {
-    deliver(cipher::lea::first_rounds(key, rounds, block), out)
+    deliver(cipher::lea::first_rounds(schedule, key, rounds, block), out)
 }
 
 // The six round keys of a round of a key, the round taken mod its rounds, into row.
 #[no_mangle]
-pub extern "C" fn bowlinette_round_keys(key: &[u8], round: usize, row: &mut [u32; 6]) -> u32
-    ensures { λ r. ⌜ (r, now (row .exit)) ≡ into (rowAnswer (now (key .entry)) round) (now (row .entry)) ⌝ }
+pub extern "C" fn bowlinette_round_keys(
+    schedule: u8,
+    key: &[u8],
+    round: usize,
+    row: &mut [u32; 6],
+) -> u32
+    ensures { λ r. ⌜ (r, now (row .exit)) ≡ into (rowAnswer schedule (now (key .entry)) round) (now (row .entry)) ⌝ }
 {
-    let a = cipher::lea::round_keys(key, round);
+    let a = cipher::lea::round_keys(schedule, key, round);
     let outcome = a.outcome;
     let number = outcome.number();
     if number == 0 {
@@ -123,24 +139,25 @@ pub extern "C" fn bowlinette_check_chain(n: usize, chain: &[u8]) -> u32
 
 // The book of a key and a chain, into the front of out.
 #[no_mangle]
-pub extern "C" fn bowlinette_build(key: &[u8], chain: &[u8], out: &mut [u8]) -> u32
-    ensures { λ r. ⌜ (r, now (out .exit)) ≡ buildAnswer (now (key .entry)) (now (chain .entry)) (now (out .entry)) ⌝ }
+pub extern "C" fn bowlinette_build(schedule: u8, key: &[u8], chain: &[u8], out: &mut [u8]) -> u32
+    ensures { λ r. ⌜ (r, now (out .exit)) ≡ buildAnswer schedule (now (key .entry)) (now (chain .entry)) (now (out .entry)) ⌝ }
 {
-    let outcome = book::build::build(key, chain, out);
+    let outcome = book::build::build(schedule, key, chain, out);
     outcome.number()
 }
 
 // The tables of one round of that book, the round taken mod its rounds, into the front of out.
 #[no_mangle]
 pub extern "C" fn bowlinette_build_round(
+    schedule: u8,
     key: &[u8],
     chain: &[u8],
     round: usize,
     out: &mut [u8],
 ) -> u32
-    ensures { λ r. ⌜ (r, now (out .exit)) ≡ buildRoundAnswer (now (key .entry)) (now (chain .entry)) round (now (out .entry)) ⌝ }
+    ensures { λ r. ⌜ (r, now (out .exit)) ≡ buildRoundAnswer schedule (now (key .entry)) (now (chain .entry)) round (now (out .entry)) ⌝ }
 {
-    let outcome = book::build::build_round(key, chain, round, out);
+    let outcome = book::build::build_round(schedule, key, chain, round, out);
     outcome.number()
 }
 
@@ -221,6 +238,7 @@ pub extern "C" fn bowlinette_seal(
 // and its length into length.
 #[no_mangle]
 pub extern "C" fn bowlinette_open(
+    schedule: u8,
     key: &[u8],
     set: &[u8],
     iv: &[u8],
@@ -228,32 +246,45 @@ pub extern "C" fn bowlinette_open(
     out: &mut [u8],
     length: &mut u64,
 ) -> u32
-    ensures { λ r. ⌜ ((r, now (length .exit)), now (out .exit)) ≡ kept (R.openAnswer (now (key .entry)) (now (set .entry)) (now (iv .entry)) (now (sealed .entry)) (now (out .entry))) (now (length .entry)) ⌝ }
+    ensures { λ r. ⌜ ((r, now (length .exit)), now (out .exit)) ≡ kept (R.openAnswer schedule (now (key .entry)) (now (set .entry)) (now (iv .entry)) (now (sealed .entry)) (now (out .entry))) (now (length .entry)) ⌝ }
 {
-    deliver_length(archive::open::open(key, set, iv, sealed, out), length)
+    deliver_length(
+        archive::open::open(schedule, key, set, iv, sealed, out),
+        length,
+    )
 }
 
 // Whether a tag, coded by set r, is that of a message under a key: 1 for Valid, 0 for Invalid, into
 // valid.
 #[no_mangle]
 pub extern "C" fn bowlinette_check(
+    schedule: u8,
     key: &[u8],
     set: &[u8],
     message: &[u8],
     tag: &[u8],
     valid: &mut u8,
 ) -> u32
-    ensures { λ r. ⌜ (r, now (valid .exit)) ≡ into (R.checkAnswer (now (key .entry)) (now (set .entry)) (now (message .entry)) (now (tag .entry))) (now (valid .entry)) ⌝ }
+    ensures { λ r. ⌜ (r, now (valid .exit)) ≡ into (R.checkAnswer schedule (now (key .entry)) (now (set .entry)) (now (message .entry)) (now (tag .entry))) (now (valid .entry)) ⌝ }
 {
-    deliver_verdict(archive::check::check(key, set, message, tag), valid)
+    deliver_verdict(
+        archive::check::check(schedule, key, set, message, tag),
+        valid,
+    )
 }
 
 // Whether a tag is Valid for a message: 1 for Valid, 0 for Invalid and for every refusal.
 #[no_mangle]
-pub extern "C" fn bowlinette_is_valid(key: &[u8], set: &[u8], message: &[u8], tag: &[u8]) -> u32
-    ensures { λ r. ⌜ r ≡ validOnly (R.checkAnswer (now (key .entry)) (now (set .entry)) (now (message .entry)) (now (tag .entry))) ⌝ }
+pub extern "C" fn bowlinette_is_valid(
+    schedule: u8,
+    key: &[u8],
+    set: &[u8],
+    message: &[u8],
+    tag: &[u8],
+) -> u32
+    ensures { λ r. ⌜ r ≡ validOnly (R.checkAnswer schedule (now (key .entry)) (now (set .entry)) (now (message .entry)) (now (tag .entry))) ⌝ }
 {
-    match archive::check::check(key, set, message, tag) {
+    match archive::check::check(schedule, key, set, message, tag) {
         Checked::Valid => 1,
         Checked::Invalid => 0,
         Checked::Refused(_) => 0,

@@ -15,10 +15,15 @@ pub extern "C" fn bowlinette_check_reading_chain(n: usize, chain: &[u8]) -> u32
 
 // The reading book of a key and a reading chain, into the front of out.
 #[no_mangle]
-pub extern "C" fn bowlinette_build_reading(key: &[u8], chain: &[u8], out: &mut [u8]) -> u32
-    ensures { λ r. ⌜ (r, now (out .exit)) ≡ buildReadingAnswer (now (key .entry)) (now (chain .entry)) (now (out .entry)) ⌝ }
+pub extern "C" fn bowlinette_build_reading(
+    schedule: u8,
+    key: &[u8],
+    chain: &[u8],
+    out: &mut [u8],
+) -> u32
+    ensures { λ r. ⌜ (r, now (out .exit)) ≡ buildReadingAnswer schedule (now (key .entry)) (now (chain .entry)) (now (out .entry)) ⌝ }
 {
-    let outcome = reading_book::build::build_reading(key, chain, out);
+    let outcome = reading_book::build::build_reading(schedule, key, chain, out);
     outcome.number()
 }
 

@@ -1,1 +1,2 @@
 pub mod CbcMac
+pub mod Digest

@@ -13,16 +13,19 @@ use Rattle.lists.specs.Refusals.{first}
 use Rattle.lists.proofs.RefusalLaws.{first-hit, first-pass}
 use Rattle.cipher.specs.KeySize.{keyLength, sizeOfKey}
 use Rattle.words.specs.Word.{words4, bytes}
-use Rattle.cipher.specs.Lea.{keyRows}
-use Rattle.cipher.specs.Answers.{keyLengthTests, keyTests, blockTests, badText, textTests, roomTests, keyLengthSize, keySize, onBlock}
+use Rattle.cipher.specs.Schedules.{scheduleFound, Named, keyRows}
+use Rattle.cipher.specs.Answers.{keyLengthTests, keyTests, blockTests, badText, textTests, roomTests, scheduleOf, keyLengthSize, keySize, onBlock}
 use Rattle.cipher.specs.Refusal.{numberOf}
 use Rattle.cipher.specs.declared.refusal.Refusal.{Refusal}
 use Rattle.cipher.specs.declared.refusal.Refusal.the-variants.{KeyLength, ChainLength, NoPermutation, WordRule, MaskByte, BookLength, BlockLength, MessageLength, ShortBuffer}
-use Rattle.cipher.specs.declared.refusal.Refusal.the-variants.{KindByte, BadPadding, SessionFinished, SessionFull, BadRecord, RecordLength, ShortRandom, SizeByte}
+use Rattle.cipher.specs.declared.refusal.Refusal.the-variants.{KindByte, BadPadding, SessionFinished, SessionFull, BadRecord, RecordLength, ShortRandom, SizeByte, ScheduleNumber}
 use Rattle.cipher.specs.declared.size.KeySize.{KeySize}
 use Rattle.cipher.specs.declared.size.KeySize.the-variants.{Bytes16, Bytes24, Bytes32}
 use Rattle.cipher.specs.declared.size.SizeFound.the-variants.{Found, Unknown}
+use Rattle.cipher.specs.declared.schedules.Schedule.{Schedule}
+use Rattle.cipher.specs.declared.schedules.ScheduleFound.the-variants.{Numbered, Unnumbered}
 use Rattle.cipher.proofs.KeySizeLaws.{found-length, none-of, one-of}
+use Rattle.cipher.proofs.SchedulesLaws.{number-refused, number-taken}
 
 -- the lesser of n and r, as `roundsAnswer` has it
 pub at-most : (n r : ℕ) → n ≤ r → cond (leb n r) n r ≡ n
@@ -53,41 +56,60 @@ module _ {A : Type 0} (n : ℕ) (ts : KeySize → List (Bool × ℕ)) (refuse : 
       first-pass (badKey n) 1 (ts (keyLengthSize n)) refuse (go (keyLengthSize n)) (one-of keyLength n z l)
       ∙ ap (λ (y : KeySize). first (ts y) refuse (go y)) (size-is n z l)
 
--- the tests on a key, and then those of `ts`
-module _ {A : Type 0} (key : List ℕ) (ts : List (Bool × ℕ)) (refuse : ℕ → A) (go : KeySize → A) where
-  pub key-refused : sizeOfKey (length key) ≡ Unknown → first (keyTests key ++ ts) refuse (go (keySize key)) ≡ refuse 1
-  key-refused e = length-refused (length key) (λ z. ts) refuse go e
+-- the tests on a schedule's number and on a key, and then those of `ts`, which may know both
+module _ {A : Type 0} (s : ℕ) (key : List ℕ) (ts : Schedule → KeySize → List (Bool × ℕ)) (refuse : ℕ → A) (go : Schedule → KeySize → A) where
+  pub schedule-refused : scheduleFound s ≡ Unnumbered
+      → first (keyTests s key ++ ts (scheduleOf s) (keySize key)) refuse (go (scheduleOf s) (keySize key)) ≡ refuse 34
+  schedule-refused e = first-hit _ 34 _ refuse _ (number-refused s e)
 
-  pub key-taken : (z : KeySize) → sizeOfKey (length key) ≡ Found z → first (keyTests key ++ ts) refuse (go (keySize key)) ≡ first ts refuse (go z)
-  key-taken z e = length-taken (length key) (λ z. ts) refuse go z e
+  module _ (k : Schedule) (e : scheduleFound s ≡ Numbered k) where
+    numbered : first (keyTests s key ++ ts (scheduleOf s) (keySize key)) refuse (go (scheduleOf s) (keySize key))
+        ≡ first (keyLengthTests (length key) ++ ts k (keySize key)) refuse (go k (keySize key))
+    numbered =
+        first-pass _ 34 _ refuse _ (number-taken s k e .0)
+        ∙ ap (λ (y : Schedule). first (keyLengthTests (length key) ++ ts y (keySize key)) refuse (go y (keySize key))) (number-taken s k e .1)
 
-module _ (key b : List ℕ) (f : KeySize → List ℕ) where
-  pub on-key : sizeOfKey (length key) ≡ Unknown → onBlock key b f ≡ (1, zeros)
-  unfolding onBlock
-  on-key e = key-refused key (blockTests b) (λ n. (n, zeros)) (λ z. (0, f z)) e
+    pub key-refused : sizeOfKey (length key) ≡ Unknown
+        → first (keyTests s key ++ ts (scheduleOf s) (keySize key)) refuse (go (scheduleOf s) (keySize key)) ≡ refuse 1
+    key-refused f = numbered ∙ length-refused (length key) (ts k) refuse (go k) f
 
-  module _ (z : KeySize) (e : sizeOfKey (length key) ≡ Found z) where
-    pub on-length : (length b ≡ 16 → ⊥) → onBlock key b f ≡ (7, zeros)
-    unfolding onBlock
-    on-length h =
-        key-taken key (blockTests b) (λ n. (n, zeros)) (λ z. (0, f z)) z e
-        ∙ first-hit (not (eqb (length b) 16)) 7 [] (λ n. (n, zeros)) (0, f z) (ap not (ne-eqb (length b) 16 h))
+  pub key-taken : (k : Schedule) (z : KeySize) → Named s key k z
+      → first (keyTests s key ++ ts (scheduleOf s) (keySize key)) refuse (go (scheduleOf s) (keySize key)) ≡ first (ts k z) refuse (go k z)
+  key-taken k z n = numbered k (n .0) ∙ length-taken (length key) (ts k) refuse (go k) z (n .1)
 
-    pub on-done : length b ≡ 16 → onBlock key b f ≡ (0, f z)
-    unfolding onBlock first
-    on-done h =
-        key-taken key (blockTests b) (λ n. (n, zeros)) (λ z. (0, f z)) z e
-        ∙ first-pass (not (eqb (length b) 16)) 7 [] (λ n. (n, zeros)) (0, f z) (ap not (eq-eqb (length b) 16 h))
+module _ (s : ℕ) (key b : List ℕ) (f : Schedule → KeySize → List ℕ) where
+  made : Schedule → KeySize → ℕ × List ℕ
+  made k z = (0, f k z)
+
+  pub on-schedule : scheduleFound s ≡ Unnumbered → onBlock s key b f ≡ (34, zeros)
+  unfolding onBlock made
+  on-schedule e = schedule-refused s key (λ k z. blockTests b) (λ n. (n, zeros)) made e
+
+  pub on-key : (k : Schedule) → scheduleFound s ≡ Numbered k → sizeOfKey (length key) ≡ Unknown → onBlock s key b f ≡ (1, zeros)
+  unfolding onBlock made
+  on-key k e h = key-refused s key (λ k z. blockTests b) (λ n. (n, zeros)) made k e h
+
+  module _ (k : Schedule) (z : KeySize) (e : Named s key k z) where
+    keyed : onBlock s key b f ≡ first (blockTests b) (λ n. (n, zeros)) (0, f k z)
+    unfolding onBlock made
+    keyed = key-taken s key (λ k z. blockTests b) (λ n. (n, zeros)) made k z e
+
+    pub on-length : (length b ≡ 16 → ⊥) → onBlock s key b f ≡ (7, zeros)
+    on-length h = keyed ∙ first-hit (not (eqb (length b) 16)) 7 [] (λ n. (n, zeros)) (0, f k z) (ap not (ne-eqb (length b) 16 h))
+
+    pub on-done : length b ≡ 16 → onBlock s key b f ≡ (0, f k z)
+    unfolding first
+    on-done h = keyed ∙ first-pass (not (eqb (length b) 16)) 7 [] (λ n. (n, zeros)) (0, f k z) (ap not (eq-eqb (length b) 16 h))
 
 -- the same where `go` made the block of x from w by n of the key's rows, n being what `count` says for the size
-module _ (go : List (List ℕ) → ℕ → List ℕ → List ℕ) (count : KeySize → ℕ) (key b : List ℕ) (z : KeySize) where
-  pub on-rows : sizeOfKey (length key) ≡ Found z → length b ≡ 16 → (a : ℕ × List ℕ) (x w : List ℕ) (rows : List (List ℕ)) (n : ℕ)
-      → a ≡ (0, bytes x) → x ≡ go rows n w → rows ≡ keyRows z key → w ≡ words4 b → n ≡ count z
-      → a ≡ onBlock key b (λ y. bytes (go (keyRows y key) (count y) (words4 b)))
+module _ (go : List (List ℕ) → ℕ → List ℕ → List ℕ) (count : KeySize → ℕ) (s : ℕ) (key b : List ℕ) (k : Schedule) (z : KeySize) where
+  pub on-rows : Named s key k z → length b ≡ 16 → (a : ℕ × List ℕ) (x w : List ℕ) (rows : List (List ℕ)) (n : ℕ)
+      → a ≡ (0, bytes x) → x ≡ go rows n w → rows ≡ keyRows k z key → w ≡ words4 b → n ≡ count z
+      → a ≡ onBlock s key b (λ j y. bytes (go (keyRows j y key) (count y) (words4 b)))
   on-rows e h a x w rows n ea ex er ew en =
       ea
       ∙ ap (λ (v : List ℕ). (0, bytes v)) (ex ∙ (λ i. go (er i) (en i) (ew i)))
-      ∙ sym (on-done key b (λ y. bytes (go (keyRows y key) (count y) (words4 b))) z e h)
+      ∙ sym (on-done s key b (λ j y. bytes (go (keyRows j y key) (count y) (words4 b))) k z e h)
 
 -- the test on a block, and then those of `ts`
 module _ {A : Type 0} (b : List ℕ) (ts : List (Bool × ℕ)) (refuse : ℕ → A) (go : A) where
@@ -165,3 +187,4 @@ number-more BadRecord = lit< tt
 number-more RecordLength = lit< tt
 number-more ShortRandom = lit< tt
 number-more SizeByte = lit< tt
+number-more ScheduleNumber = lit< tt

@@ -17,10 +17,12 @@ use Rattle.lists.proofs.TabulationLaws.{tab-is}
 use Rattle.words.specs.Word.{add, sub, xor, turnLeft, turnRight, word, bytesOf, wordAt, xorWords, words4, bytes}
 use Rattle.cipher.specs.KeySize.{rounds}
 use Rattle.words.specs.Rows.{RowsOfWords}
-use Rattle.cipher.specs.Lea.{keyed, unkeyed, round, unround, forward, backward, firstRounds, undoneRounds, encipher, decipher, keyRows}
+use Rattle.cipher.specs.Schedules.{keyRows}
+use Rattle.cipher.specs.Lea.{keyed, unkeyed, round, unround, forward, backward, firstRounds, undoneRounds, encipher, decipher}
 use Rattle.cipher.specs.declared.size.KeySize.{KeySize}
+use Rattle.cipher.specs.declared.schedules.Schedule.{Schedule}
 use Rattle.words.proofs.WordLaws.{right-left, left-right, add-word, sub-word, left-word, right-word, xor-word, sub-add, add-sub, xor-xor, bytes-word, word-bytes, word-xor}
-use Rattle.cipher.proofs.ScheduleLaws.{key-words}
+use Rattle.cipher.proofs.SchedulesLaws.{key-words}
 
 -- four words
 pub data Four : List ℕ → Type 0 where
@@ -218,12 +220,12 @@ module _ (rows : List (List ℕ)) (hr : RowsOfWords rows) (n : ℕ) {b : List �
       ∙ bytes-words h
 
 -- under a key: deciphering undoes enciphering, and the other way round
-module _ (z : KeySize) (key : List ℕ) {b : List ℕ} (hk : Bytes key) (h : Block b) where
-  pub decipher-encipher : decipher z key (encipher z key b) ≡ b
-  decipher-encipher = rounds-undone (keyRows z key) (key-words z key hk) (rounds z) h
+module _ (k : Schedule) (z : KeySize) (key : List ℕ) {b : List ℕ} (hk : Bytes key) (h : Block b) where
+  pub decipher-encipher : decipher k z key (encipher k z key b) ≡ b
+  decipher-encipher = rounds-undone (keyRows k z key) (key-words k z key hk) (rounds z) h
 
-  pub encipher-decipher : encipher z key (decipher z key b) ≡ b
-  encipher-decipher = undone-rounds (keyRows z key) (key-words z key hk) (rounds z) h
+  pub encipher-decipher : encipher k z key (decipher k z key b) ≡ b
+  encipher-decipher = undone-rounds (keyRows k z key) (key-words k z key hk) (rounds z) h
 
 -- ---- one turn of a loop more: a round, or four
 

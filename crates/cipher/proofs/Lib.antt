@@ -2,6 +2,7 @@ pub mod KeySizeLaws
 pub mod TurnSums
 pub mod ScheduleLaws
 pub mod Schedule32
+pub mod SchedulesLaws
 pub mod LeaLaws
 pub mod CmacLaws
 pub mod CbcMacLaws

@@ -12,7 +12,6 @@ use Rattle.lists.specs.Blocks.{Bytes}
 use Rattle.lists.specs.Tabulation.{tab}
 use Rattle.lists.proofs.PartLaws.{fill-more}
 use Rattle.lists.proofs.TabulationLaws.{getD-tab, tab-ext}
-use Rattle.cipher.specs.Lea.{keyRows}
 use Rattle.words.specs.Word.{add, rol, words4}
 use Rattle.words.specs.Rows.{blank, RowsOfWords}
 use Rattle.cipher.specs.Schedule.{delta, deltaOf, turns, mixed, mixedFour, mixedRow, step16, row16, step24, row24, place, mixAt, step32, row32, words6, words8}
@@ -106,11 +105,11 @@ module _ (step row : ℕ → List ℕ → List ℕ) (hs : (i : ℕ) (t : List �
   filled-words : (n : ℕ) → RowsOfWords (filled step row n t)
   filled-words n = rows-below (rows-joined (rowsOf-words n) (rows-same (32 - n)))
 
-pub key-words : (z : KeySize) (key : List ℕ) → Bytes key → RowsOfWords (keyRows z key)
+pub lea-words : (z : KeySize) (key : List ℕ) → Bytes key → RowsOfWords (schedule z key)
 unfolding schedule
-key-words Bytes16 key h = filled-words step16 row16 (λ i t w. mixedFour-words (deltaOf 4 i) i t) row16-words (words4 key) (words4-words key h) 24
-key-words Bytes24 key h = filled-words step24 row24 (λ i t w. mixedRow-words (deltaOf 6 i) i t) (λ i t w. w) (words6 key) (words6-words key h) 28
-key-words Bytes32 key h = filled-words step32 row32 step32-words row32-words (words8 key) (words8-words key h) 32
+lea-words Bytes16 key h = filled-words step16 row16 (λ i t w. mixedFour-words (deltaOf 4 i) i t) row16-words (words4 key) (words4-words key h) 24
+lea-words Bytes24 key h = filled-words step24 row24 (λ i t w. mixedRow-words (deltaOf 6 i) i t) (λ i t w. w) (words6 key) (words6-words key h) 28
+lea-words Bytes32 key h = filled-words step32 row32 step32-words row32-words (words8 key) (words8-words key h) 32
 
 -- ---- the queue of δ
 

@@ -11,10 +11,13 @@ use Rattle.cipher.specs.KeySize.{rounds}
 use Rattle.cipher.specs.Lengths.{longestCode}
 use Rattle.cipher.specs.Refusal.{outcomeOf}
 use Rattle.words.specs.Rows.{blank}
-use Rattle.cipher.specs.Lea.{firstRounds, encipher, decipher, keyRows}
+use Rattle.cipher.specs.Schedules.{keyRows}
+use Rattle.cipher.specs.Lea.{firstRounds, encipher, decipher}
 use Rattle.cipher.specs.Chain.{setTests, chainTests}
 use Rattle.cipher.specs.declared.size.KeySize.{KeySize}
 use Rattle.cipher.specs.declared.size.KeySize.the-variants.{Bytes16, Bytes24, Bytes32}
+use Rattle.cipher.specs.declared.schedules.Schedule.{Schedule}
+use Rattle.cipher.specs.declared.schedules.Schedule.the-variants.{Lea, WfLea}
 use Rattle.cipher.specs.declared.answer.BlockAnswer.{BlockAnswer}
 use Rattle.cipher.specs.declared.lea.RowAnswer.{RowAnswer}
 
@@ -29,8 +32,13 @@ rowTold a = (outcomeOf (a .outcome), a .row)
 abbrev pub keyLengthTests : ℕ → List (Bool × ℕ)
 keyLengthTests n = (not (eqb n 16 || eqb n 24 || eqb n 32), 1) ∷ []
 
-abbrev pub keyTests : List ℕ → List (Bool × ℕ)
-keyTests key = keyLengthTests (length key)
+-- refusal 34 (document 02, 2026-07), before all others: a schedule's number other than 0 and 1
+abbrev pub scheduleTests : ℕ → List (Bool × ℕ)
+scheduleTests s = (not (eqb s 0 || eqb s 1), 34) ∷ []
+
+-- what has a key is told the number of a schedule too
+abbrev pub keyTests : ℕ → List ℕ → List (Bool × ℕ)
+keyTests s key = scheduleTests s ++ keyLengthTests (length key)
 
 abbrev pub blockTests : List ℕ → List (Bool × ℕ)
 blockTests b = (not (eqb (length b) blockLength), 7) ∷ []
@@ -46,7 +54,10 @@ textTests t = (badText (length t), 8) ∷ []
 abbrev pub roomTests : ℕ → List ℕ → List (Bool × ℕ)
 roomTests n out = (ltb (length out) n, 9) ∷ []
 
--- the size of a key that is not refused
+-- the schedule of a number, and the size of a key, that is not refused
+unfoldable pub scheduleOf : ℕ → Schedule
+scheduleOf s = cond (eqb s 0) Lea WfLea
+
 unfoldable pub keyLengthSize : ℕ → KeySize
 keyLengthSize n = cond (eqb n 16) Bytes16 (cond (eqb n 24) Bytes24 Bytes32)
 
@@ -54,26 +65,26 @@ abbrev pub keySize : List ℕ → KeySize
 keySize key = keyLengthSize (length key)
 
 -- the refusals of an operation on a key and a block
-abbrev pub keyBlockTests : List ℕ → List ℕ → List (Bool × ℕ)
-keyBlockTests key b = keyTests key ++ blockTests b
+abbrev pub keyBlockTests : ℕ → List ℕ → List ℕ → List (Bool × ℕ)
+keyBlockTests s key b = keyTests s key ++ blockTests b
 
--- what `f` makes of a block, where key and block are not refused
-unfoldable pub onBlock : List ℕ → List ℕ → (KeySize → List ℕ) → ℕ × List ℕ
-onBlock key b f = first (keyBlockTests key b) (λ n. (n, zeros)) (0, f (keySize key))
+-- what `f` makes of a block, where schedule, key and block are not refused
+unfoldable pub onBlock : ℕ → List ℕ → List ℕ → (Schedule → KeySize → List ℕ) → ℕ × List ℕ
+onBlock s key b f = first (keyBlockTests s key b) (λ n. (n, zeros)) (0, f (scheduleOf s) (keySize key))
 
-abbrev pub encipherAnswer : List ℕ → List ℕ → ℕ × List ℕ
-encipherAnswer key b = onBlock key b (λ z. encipher z key b)
+abbrev pub encipherAnswer : ℕ → List ℕ → List ℕ → ℕ × List ℕ
+encipherAnswer s key b = onBlock s key b (λ k z. encipher k z key b)
 
-abbrev pub decipherAnswer : List ℕ → List ℕ → ℕ × List ℕ
-decipherAnswer key b = onBlock key b (λ z. decipher z key b)
+abbrev pub decipherAnswer : ℕ → List ℕ → List ℕ → ℕ × List ℕ
+decipherAnswer s key b = onBlock s key b (λ k z. decipher k z key b)
 
--- the first n rounds of LEA, all of them where n is more
-abbrev pub roundsAnswer : List ℕ → ℕ → List ℕ → ℕ × List ℕ
-roundsAnswer key n b = onBlock key b (λ z. firstRounds (keyRows z key) (cond (leb n (rounds z)) n (rounds z)) b)
+-- the first n rounds, all of them where n is more
+abbrev pub roundsAnswer : ℕ → List ℕ → ℕ → List ℕ → ℕ × List ℕ
+roundsAnswer s key n b = onBlock s key b (λ k z. firstRounds (keyRows k z key) (cond (leb n (rounds z)) n (rounds z)) b)
 
 -- the round keys of round l mod r
-abbrev pub rowAnswer : List ℕ → ℕ → ℕ × List ℕ
-rowAnswer key l = first (keyTests key) (λ n. (n, blank)) (0, getD (keyRows (keySize key) key) (l % rounds (keySize key)) [])
+abbrev pub rowAnswer : ℕ → List ℕ → ℕ → ℕ × List ℕ
+rowAnswer s key l = first (keyTests s key) (λ n. (n, blank)) (0, getD (keyRows (scheduleOf s) (keySize key) key) (l % rounds (keySize key)) [])
 
 -- what the checks of a lone set, and of a chain for a key of n bytes, answer (document 01, "Refusals from the input")
 abbrev pub setChecked : List ℕ → ℕ

@@ -5,8 +5,9 @@ use mathlib.Core.List.{List, [], _∷_}
 use lib.ListN.{getD}
 use Rattle.words.specs.Word.{add, sub, xor, rol, ror, words4, bytes}
 use Rattle.cipher.specs.KeySize.{rounds}
-use Rattle.cipher.specs.Schedule.{schedule}
+use Rattle.cipher.specs.Schedules.{keyRows}
 use Rattle.cipher.specs.declared.size.KeySize.{KeySize}
+use Rattle.cipher.specs.declared.schedules.Schedule.{Schedule}
 
 -- the sum of two words, each under its round key
 unfoldable pub keyed : ℕ → ℕ → ℕ → ℕ → ℕ
@@ -50,14 +51,9 @@ firstRounds rows n b = bytes (forward rows n (words4 b))
 unfoldable pub undoneRounds : List (List ℕ) → ℕ → List ℕ → List ℕ
 undoneRounds rows n b = bytes (backward rows n (words4 b))
 
--- the rows of round keys that a key of a size supplies: whatever has a key takes its rows from here, and only here a schedule is
--- named
-abbrev pub keyRows : KeySize → List ℕ → List (List ℕ)
-keyRows z key = schedule z key
+-- a block enciphered, and deciphered, under a key of a size, by the schedule told: LEA, or WF-LEA, whose rounds are LEA's
+abbrev pub encipher : Schedule → KeySize → List ℕ → List ℕ → List ℕ
+encipher s z key b = firstRounds (keyRows s z key) (rounds z) b
 
--- a block enciphered, and deciphered, under a key of a size
-abbrev pub encipher : KeySize → List ℕ → List ℕ → List ℕ
-encipher z key b = firstRounds (keyRows z key) (rounds z) b
-
-abbrev pub decipher : KeySize → List ℕ → List ℕ → List ℕ
-decipher z key b = undoneRounds (keyRows z key) (rounds z) b
+abbrev pub decipher : Schedule → KeySize → List ℕ → List ℕ → List ℕ
+decipher s z key b = undoneRounds (keyRows s z key) (rounds z) b

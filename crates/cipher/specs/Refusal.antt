@@ -3,7 +3,7 @@ use mathlib.Core.List.{List, [], _∷_}
 use Prim.Native.Nat.{ℕ}
 use Rattle.cipher.specs.declared.refusal.Refusal.{Refusal}
 use Rattle.cipher.specs.declared.refusal.Refusal.the-variants.{KeyLength, ChainLength, NoPermutation, WordRule, MaskByte, BookLength, BlockLength, MessageLength, ShortBuffer}
-use Rattle.cipher.specs.declared.refusal.Refusal.the-variants.{KindByte, BadPadding, SessionFinished, SessionFull, BadRecord, RecordLength, ShortRandom, SizeByte}
+use Rattle.cipher.specs.declared.refusal.Refusal.the-variants.{KindByte, BadPadding, SessionFinished, SessionFull, BadRecord, RecordLength, ShortRandom, SizeByte, ScheduleNumber}
 use Rattle.cipher.specs.declared.refusal.Outcome.{Outcome}
 use Rattle.cipher.specs.declared.refusal.Outcome.the-variants.{Done, Refused}
 use Rattle.cipher.specs.declared.refusal.Written.{Written}
@@ -27,6 +27,7 @@ numberOf BadRecord = 30
 numberOf RecordLength = 31
 numberOf ShortRandom = 32
 numberOf SizeByte = 33
+numberOf ScheduleNumber = 34
 
 -- an outcome as a number: 0 where the operation was done
 abbrev pub outcomeOf : Outcome → ℕ

@@ -20,6 +20,7 @@ pub enum Refusal {
     RecordLength,
     ShortRandom,
     SizeByte,
+    ScheduleNumber,
 }
 
 // The outcome of an operation that gives nothing else.
@@ -56,6 +57,7 @@ impl Refusal {
             Refusal::RecordLength => 31,
             Refusal::ShortRandom => 32,
             Refusal::SizeByte => 33,
+            Refusal::ScheduleNumber => 34,
         }
     }
 }

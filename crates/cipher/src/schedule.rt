@@ -8,7 +8,6 @@ ghost use lib.ListN.{length, getD};
 ghost use Rattle.lists.specs.Tabulation.{tab};
 ghost use Rattle.cipher.specs.KeySize.{keyLength};
 ghost use Rattle.words.specs.Word.{rol, words4};
-ghost use Rattle.cipher.specs.Lea.{keyRows};
 ghost use Rattle.cipher.specs.Schedule as S;
 use crate::size::KeySize;
 use words::word::rotate_left;
@@ -169,10 +168,10 @@ fn schedule32(key: &[u8]) -> [[u32; 6]; 32]
     rows
 }
 
-// The rows of a key of a size: whatever has a key takes its rows from here.
-pub fn key_rows(size: KeySize, key: &[u8]) -> [[u32; 6]; 32]
+// The rows of a key of a size.
+pub fn lea_rows(size: KeySize, key: &[u8]) -> [[u32; 6]; 32]
     requires { ⌜ length (now key) ≡ keyLength size ⌝ }
-    ensures { λ r. ⌜ r ≡ keyRows size (now (key .entry)) ⌝ }
+    ensures { λ r. ⌜ r ≡ S.schedule size (now (key .entry)) ⌝ }
 {
     match size {
         KeySize::Bytes16 => schedule16(key),

@@ -10,11 +10,11 @@ use lib.ListN.{length, getD, take, drop}
 use lib.Seq.{take-at}
 use Rattle.lists.specs.Refusals.{first}
 use Rattle.lists.proofs.RefusalLaws.{Clear}
-use Rattle.cipher.specs.Lea.{keyRows}
+use Rattle.cipher.specs.Schedules.{scheduleFound, Named, keyRows}
 use Rattle.cipher.specs.KeySize.{rounds, bookLength, sizeBy, sizeOfKey}
 use Rattle.cipher.specs.Chain.{ChainBy, Chain, chainTestsBy}
 use Rattle.cipher.specs.Book.{bookOf, wholeBook, bookBody, Book}
-use Rattle.cipher.specs.Answers.{keyLengthSize, keySize, roomTests}
+use Rattle.cipher.specs.Answers.{scheduleOf, keyLengthSize, keySize, roomTests}
 use Rattle.cipher.specs.declared.size.KeySize.{KeySize}
 use Rattle.cipher.specs.declared.size.SizeFound.the-variants.{Found, Unknown}
 use Rattle.cipher.specs.declared.size.KeySize.the-variants.{Bytes16, Bytes24, Bytes32}
@@ -25,6 +25,9 @@ use Rattle.driver.specs.Driver.{admitAnswer}
 use Rattle.driver.proofs.AdmitLaws.{book-admitted}
 use Rattle.book.specs.Answers.{buildTestsBy, builtInto}
 use Rattle.book.proofs.AnswerLaws.{built-done}
+use Rattle.cipher.specs.declared.schedules.Schedule.{Schedule}
+use Rattle.cipher.specs.declared.schedules.Schedule.the-variants.{Lea, WfLea}
+use Rattle.cipher.specs.declared.schedules.ScheduleFound.the-variants as S
 use Rattle.reading.specs.Chain.{ReadingChain}
 use Rattle.reading.specs.Book.{readingBookOf, readingBookLength, ReadingBook}
 use Rattle.reading.proofs.ReadingBookLaw.{reading-book-size, reading-book-made}
@@ -33,15 +36,16 @@ use Rattle.claims.specs.Review.{ReadingBuilt, readingBookIn}
 
 -- ---- a valid chain and a key of its size give a book, a valid reading chain a reading book, in every buffer that has room for it
 
-pub any-built : (z : KeySize) (key ch out : List ℕ) → sizeOfKey (length key) ≡ Found z → Chain z ch → bookLength z ≤ length out
-    → Built key ch out (wholeBook z (keyRows z key) ch ++ drop (bookLength z) out)
-any-built z key ch out e v h =
-    sym (built-done 0 3 key ch out bookLength (λ y. wholeBook y (keyRows y key) ch) z e v h (wholeBook z (keyRows z key) ch) refl)
+module _ (schedule : ℕ) (k : Schedule) (z : KeySize) (key ch out : List ℕ) (e : Named schedule key k z) where
+  pub any-built : Chain z ch → bookLength z ≤ length out → Built schedule key ch out (wholeBook z (keyRows k z key) ch ++ drop (bookLength z) out)
+  any-built v h =
+      sym (built-done 0 3 schedule key ch out bookLength (λ k z. wholeBook z (keyRows k z key) ch) k z e v h (wholeBook z (keyRows k z key) ch) refl)
 
-pub any-reading-built : (z : KeySize) (key ch out : List ℕ) → sizeOfKey (length key) ≡ Found z → ReadingChain z ch → readingBookLength z ≤ length out
-    → ReadingBuilt key ch out (readingBookOf (rounds z) (keyRows z key) ch ++ drop (readingBookLength z) out)
-any-reading-built z key ch out e v h =
-    sym (built-done 3 0 key ch out readingBookLength (λ y. readingBookOf (rounds y) (keyRows y key) ch) z e v h (readingBookOf (rounds z) (keyRows z key) ch) refl)
+  pub any-reading-built : ReadingChain z ch → readingBookLength z ≤ length out
+      → ReadingBuilt schedule key ch out (readingBookOf (rounds z) (keyRows k z key) ch ++ drop (readingBookLength z) out)
+  any-reading-built v h =
+      sym (built-done 3 0 schedule key ch out readingBookLength (λ k z. readingBookOf (rounds z) (keyRows k z key) ch) k z e v h
+      (readingBookOf (rounds z) (keyRows k z key) ch) refl)
 
 -- ---- what an answer 0 tells
 
@@ -73,77 +77,88 @@ size-known n = go (eqb n 16) (eqb n 24) (eqb n 32)
     go false false true e = refl
     go false false false e = let w : _≡_ {A = ℕ} 0 1 = cc in absurd (omega arith)
 
--- of anything that is built, with any word rule: the part that a key of a size and a chain make, of a length that goes with the size
-module _ (from to : ℕ) (key ch out held : List ℕ) (len : KeySize → ℕ) (part : KeySize → List ℕ)
-    (built : builtInto from to key ch out len part ≡ (0, held)) where
-  numbered : Numbered (buildTestsBy from to key ch out len)
-  unfolding chainTestsBy
-  numbered = (lit< tt, (lit< tt, (lit< tt, (lit< tt, (lit< tt, (lit< tt, tt))))))
+-- the schedule of a number that is not refused
+schedule-known : (n : ℕ) → not (eqb n 0 || eqb n 1) ≡ false → scheduleFound n ≡ S.Numbered (scheduleOf n)
+unfolding scheduleFound scheduleOf
+schedule-known n = go (eqb n 0) (eqb n 1)
+  where
+    go : (a b : Bool) → not (a || b) ≡ false → cond a (S.Numbered Lea) (cond b (S.Numbered WfLea) S.Unnumbered) ≡ S.Numbered (cond a Lea WfLea)
+    go true b e = refl
+    go false true e = refl
+    go false false e = let w : _≡_ {A = ℕ} 0 1 = cc in absurd (omega arith)
 
-  parts : Clear (buildTestsBy from to key ch out len) × (part (keySize key) ++ drop (len (keySize key)) out ≡ held)
+-- of anything that is built, with any word rule: the part that a key of a size and a chain make by a schedule, of a length that goes with
+-- the size
+module _ (from to schedule : ℕ) (key ch out held : List ℕ) (len : KeySize → ℕ) (part : Schedule → KeySize → List ℕ)
+    (built : builtInto from to schedule key ch out len part ≡ (0, held)) where
+  numbered : Numbered (buildTestsBy from to schedule key ch out len)
+  unfolding chainTestsBy
+  numbered = (lit< tt, (lit< tt, (lit< tt, (lit< tt, (lit< tt, (lit< tt, (lit< tt, tt)))))))
+
+  parts : Clear (buildTestsBy from to schedule key ch out len) × (part (scheduleOf schedule) (keySize key) ++ drop (len (keySize key)) out ≡ held)
   unfolding builtInto
   parts =
-      let done : ℕ × List ℕ = (0, part (keySize key) ++ drop (len (keySize key)) out) in
+      let done : ℕ × List ℕ = (0, part (scheduleOf schedule) (keySize key) ++ drop (len (keySize key)) out) in
       let said = ap (λ (r : ℕ × List ℕ). r .0) built in
-      let p = not-refused (λ (r : ℕ × List ℕ). r .0) (λ n. (n, out)) (λ q. refl) done (buildTestsBy from to key ch out len) numbered said in
+      let p = not-refused (λ (r : ℕ × List ℕ). r .0) (λ n. (n, out)) (λ q. refl) done (buildTestsBy from to schedule key ch out len) numbered said in
       (p .0, ap (λ (r : ℕ × List ℕ). r .1) (sym (p .1) ∙ built))
 
-  pub into-size : sizeOfKey (length key) ≡ Found (keySize key)
-  into-size = size-known (length key) (parts .0 .0)
+  pub into-named : Named schedule key (scheduleOf schedule) (keySize key)
+  into-named = (schedule-known schedule (parts .0 .0), size-known (length key) (parts .0 .1 .0))
 
   pub into-chain : ChainBy from to (keySize key) ch
-  into-chain = chain-tested (keySize key) ch (clear-front (chainTestsBy from to (keySize key) ch) (roomTests (len (keySize key)) out) (parts .0 .1))
+  into-chain = chain-tested (keySize key) ch (clear-front (chainTestsBy from to (keySize key) ch) (roomTests (len (keySize key)) out) (parts .0 .1 .1))
 
-  pub into-front : length (part (keySize key)) ≡ len (keySize key) → take (len (keySize key)) held ≡ part (keySize key)
+  pub into-front : length (part (scheduleOf schedule) (keySize key)) ≡ len (keySize key) → take (len (keySize key)) held ≡ part (scheduleOf schedule) (keySize key)
   into-front e =
-      ap (take (len (keySize key))) (sym (parts .1)) ∙ take-at (part (keySize key)) (drop (len (keySize key)) out) (len (keySize key)) e
+      ap (take (len (keySize key))) (sym (parts .1)) ∙ take-at (part (scheduleOf schedule) (keySize key)) (drop (len (keySize key)) out) (len (keySize key)) e
 
 -- a book
 pub whole-length : (z : KeySize) (rows : List (List ℕ)) (ch : List ℕ) → length (wholeBook z rows ch) ≡ bookLength z
 whole-length z rows ch = omega (arith, book-size (rounds z) rows ch)
 
-module _ (key ch out held : List ℕ) (built : Built key ch out held) where
-  abbrev bookFor : KeySize → List ℕ
-  bookFor z = wholeBook z (keyRows z key) ch
+module _ (schedule : ℕ) (key ch out held : List ℕ) (built : Built schedule key ch out held) where
+  abbrev bookFor : Schedule → KeySize → List ℕ
+  bookFor k z = wholeBook z (keyRows k z key) ch
 
-  pub built-size : sizeOfKey (length key) ≡ Found (keySize key)
-  built-size = into-size 0 3 key ch out held bookLength bookFor built
+  pub built-named : Named schedule key (scheduleOf schedule) (keySize key)
+  built-named = into-named 0 3 schedule key ch out held bookLength bookFor built
 
   pub built-chain : Chain (keySize key) ch
-  built-chain = into-chain 0 3 key ch out held bookLength bookFor built
+  built-chain = into-chain 0 3 schedule key ch out held bookLength bookFor built
 
-  pub built-is : bookIn key held ≡ wholeBook (keySize key) (keyRows (keySize key) key) ch
-  built-is = into-front 0 3 key ch out held bookLength bookFor built (whole-length (keySize key) (keyRows (keySize key) key) ch)
+  pub built-is : bookIn key held ≡ wholeBook (keySize key) (keyRows (scheduleOf schedule) (keySize key) key) ch
+  built-is = into-front 0 3 schedule key ch out held bookLength bookFor built (whole-length (keySize key) (keyRows (scheduleOf schedule) (keySize key) key) ch)
 
-  pub built-body : bookBody (bookIn key held) ≡ bookOf (keyRounds key) (keyRows (keySize key) key) ch
+  pub built-body : bookBody (bookIn key held) ≡ bookOf (keyRounds key) (keyRows (scheduleOf schedule) (keySize key) key) ch
   built-body = ap bookBody built-is
 
-  pub built-book : Book (keyRounds key) (keyRows (keySize key) key) ch (bookBody (bookIn key held))
-  built-book = subst (λ (b : List ℕ). Book (keyRounds key) (keyRows (keySize key) key) ch b) (sym built-body) (book-made (keyRounds key) (keyRows (keySize key) key) ch)
+  pub built-book : Book (keyRounds key) (keyRows (scheduleOf schedule) (keySize key) key) ch (bookBody (bookIn key held))
+  built-book = subst (λ (b : List ℕ). Book (keyRounds key) (keyRows (scheduleOf schedule) (keySize key) key) ch b) (sym built-body) (book-made (keyRounds key) (keyRows (scheduleOf schedule) (keySize key) key) ch)
 
   -- it is admitted
   pub built-found : admitAnswer (bookIn key held) ≡ (0, Found (keySize key))
   built-found =
-      book-admitted (bookIn key held) (keySize key) (ap length built-is ∙ whole-length (keySize key) (keyRows (keySize key) key) ch)
+      book-admitted (bookIn key held) (keySize key) (ap length built-is ∙ whole-length (keySize key) (keyRows (scheduleOf schedule) (keySize key) key) ch)
       (ap (λ (b : List ℕ). getD b 0 0) built-is)
 
 -- a reading book
-module _ (key ch out held : List ℕ) (built : ReadingBuilt key ch out held) where
-  abbrev readingBookFor : KeySize → List ℕ
-  readingBookFor z = readingBookOf (rounds z) (keyRows z key) ch
+module _ (schedule : ℕ) (key ch out held : List ℕ) (built : ReadingBuilt schedule key ch out held) where
+  abbrev readingBookFor : Schedule → KeySize → List ℕ
+  readingBookFor k z = readingBookOf (rounds z) (keyRows k z key) ch
 
-  pub reading-built-size : sizeOfKey (length key) ≡ Found (keySize key)
-  reading-built-size = into-size 3 0 key ch out held readingBookLength readingBookFor built
+  pub reading-built-named : Named schedule key (scheduleOf schedule) (keySize key)
+  reading-built-named = into-named 3 0 schedule key ch out held readingBookLength readingBookFor built
 
   pub reading-built-chain : ReadingChain (keySize key) ch
-  reading-built-chain = into-chain 3 0 key ch out held readingBookLength readingBookFor built
+  reading-built-chain = into-chain 3 0 schedule key ch out held readingBookLength readingBookFor built
 
-  pub reading-built-is : readingBookIn key held ≡ readingBookOf (keyRounds key) (keyRows (keySize key) key) ch
+  pub reading-built-is : readingBookIn key held ≡ readingBookOf (keyRounds key) (keyRows (scheduleOf schedule) (keySize key) key) ch
   reading-built-is =
-      into-front 3 0 key ch out held readingBookLength readingBookFor built (reading-book-size (keyRounds key) (keyRows (keySize key) key) ch)
+      into-front 3 0 schedule key ch out held readingBookLength readingBookFor built (reading-book-size (keyRounds key) (keyRows (scheduleOf schedule) (keySize key) key) ch)
 
-  pub reading-built-book : ReadingBook (keyRounds key) (keyRows (keySize key) key) ch (readingBookIn key held)
+  pub reading-built-book : ReadingBook (keyRounds key) (keyRows (scheduleOf schedule) (keySize key) key) ch (readingBookIn key held)
   reading-built-book =
       let r = keyRounds key in
-      let rows = keyRows (keySize key) key in
+      let rows = keyRows (scheduleOf schedule) (keySize key) key in
       subst (λ (b : List ℕ). ReadingBook r rows ch b) (sym reading-built-is) (reading-book-made r rows ch)

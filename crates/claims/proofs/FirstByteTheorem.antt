@@ -19,7 +19,7 @@ use Rattle.claims.specs.Model.{Call, blockCall, lastCall, Answer}
 use Rattle.claims.specs.Calls.{blockReply, lastReply, driverCall, run, driverAnswers}
 use Rattle.claims.specs.Built.{Built, bookIn}
 use Rattle.claims.specs.FirstByte.{bareBook, bareTests, bareRounds, bareSeal, bareBegun, bareBlock, bareLast, bareCall, bareAnswers, LikeBare, FirstByteLaws}
-use Rattle.claims.proofs.BuiltLaws.{built-size, built-is, built-body, built-found}
+use Rattle.claims.proofs.BuiltLaws.{built-named, built-is, built-body, built-found}
 
 -- a book of size z that is not refused
 module _ (bk : List ℕ) (z : KeySize) (found : admitAnswer bk ≡ (0, Found z)) where
@@ -71,16 +71,16 @@ module _ (bk : List ℕ) (z : KeySize) (found : admitAnswer bk ≡ (0, Found z))
   like-bare = record { after-rounds = rounds-alike; sealing = seal-alike; begun = begun-alike; calls = call-alike; answers = answers-alike }
 
 -- a book that is built
-module _ (key ch out held : List ℕ) (built : Built key ch out held) where
-  byte-and-bare : bookIn key held ≡ length key ∷ bareBook key ch
+module _ (schedule : ℕ) (key ch out held : List ℕ) (built : Built schedule key ch out held) where
+  byte-and-bare : bookIn key held ≡ length key ∷ bareBook schedule key ch
   byte-and-bare =
-      built-is key ch out held built
-      ∙ ap (λ (n : ℕ). n ∷ bareBook key ch) (sym (found-length keyLength (length key) (keySize key) (built-size key ch out held built)))
+      built-is schedule key ch out held built
+      ∙ ap (λ (n : ℕ). n ∷ bareBook schedule key ch) (sym (found-length keyLength (length key) (keySize key) (built-named schedule key ch out held built .1)))
 
-  built-like-bare : LikeBare (bookIn key held) (bareBook key ch)
+  built-like-bare : LikeBare (bookIn key held) (bareBook schedule key ch)
   built-like-bare =
-      subst (λ (bare : List ℕ). LikeBare (bookIn key held) bare) (built-body key ch out held built)
-      (like-bare (bookIn key held) (keySize key) (built-found key ch out held built))
+      subst (λ (bare : List ℕ). LikeBare (bookIn key held) bare) (built-body schedule key ch out held built)
+      (like-bare (bookIn key held) (keySize key) (built-found schedule key ch out held built))
 
 pub first-byte : FirstByteLaws
 first-byte = record { built = byte-and-bare; like-bare = built-like-bare; alike = like-bare }

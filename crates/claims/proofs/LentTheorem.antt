@@ -19,13 +19,13 @@ unfolding run
 lent-run bk none = refl
 lent-run bk (then {cs = cs} e l) = λ i. (e i) .0 ∷ (lent-run bk l ∙ ap (λ (r : Answer × Session). run (driverCall bk) cs (r .1)) e) i
 
-pub lent-built : (key ch out held : List ℕ) → Built key ch out held → (s₀ s : Session) (q : ℕ) → (q, s) ≡ begunOver (bookIn key held) s₀
-    → LentLikeModel key ch (bookIn key held) q s
+pub lent-built : (schedule : ℕ) (key ch out held : List ℕ) → Built schedule key ch out held → (s₀ s : Session) (q : ℕ) → (q, s) ≡ begunOver (bookIn key held) s₀
+    → LentLikeModel schedule key ch (bookIn key held) q s
 unfolding driverAnswers
-lent-built key ch out held b s₀ s q e =
+lent-built schedule key ch out held b s₀ s q e =
     let bk = bookIn key held in
-    let known = built-found key ch out held b in
+    let known = built-found schedule key ch out held b in
     let fresh = e ∙ over-done bk s₀ _ known in (
       ap (λ (r : ℕ × Session). r .0) fresh,
-      λ cs rs l. lent-run bk l ∙ ap (λ (r : ℕ × Session). run (driverCall bk) cs (r .1)) (fresh ∙ sym (begin-done bk _ known)) ∙ session-built key ch out held b cs,
+      λ cs rs l. lent-run bk l ∙ ap (λ (r : ℕ × Session). run (driverCall bk) cs (r .1)) (fresh ∙ sym (begin-done bk _ known)) ∙ session-built schedule key ch out held b cs,
     )

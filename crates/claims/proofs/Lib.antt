@@ -23,3 +23,4 @@ pub mod Marked
 pub mod RefusalOrder
 pub mod Demand3Theorem
 pub mod WorksTheorem
+pub mod SchedulesTheorem

@@ -50,7 +50,7 @@ bad-03-02 a = rw (last, first)
         ap (λ (n : ℕ). getD (a ++ (0x03 ∷ 0x02 ∷ [])) n 0) e ∙ getD-append-add a (0x03 ∷ 0x02 ∷ []) 0 0
 
 refused-11 : (end : List ℕ) → ((a : List ℕ) → endsPadded (a ++ end) ≡ false) → Refused11 end
-refused-11 end bad key set iv sealed out front z e v l d w t = open-11 key set iv sealed out z e v l d w (ap endsPadded t ∙ bad front)
+refused-11 end bad schedule key set iv sealed out front k z e v l d w t = open-11 schedule key set iv sealed out k z e v l d w (ap endsPadded t ∙ bad front)
 
 -- ---- the table
 

@@ -13,8 +13,8 @@ use lib.Dec.{eqb, lit<}
 use lib.ListN.{length, drop, length-drop}
 use lib.Seq.{ext-getD, getD-take, length-take-le}
 use Rattle.lists.specs.Blocks.{Bytes, blockLength}
-use Rattle.cipher.specs.KeySize.{rounds, bookLength, sizeOfKey}
-use Rattle.cipher.specs.Lea.{keyRows}
+use Rattle.cipher.specs.KeySize.{rounds, bookLength}
+use Rattle.cipher.specs.Schedules.{Named, keyRows}
 use Rattle.cipher.specs.Coding.{Permutation}
 use Rattle.cipher.specs.Chain.{messageSet, chainSet, middleSet, maskAt, ChainBy, Chain}
 use Rattle.cipher.specs.Book.{wholeBook}
@@ -24,7 +24,7 @@ use Rattle.cipher.proofs.KeySizeLaws.{rounds-fours}
 use Rattle.reading.specs.Chain.{ReadingChain}
 use Rattle.reading.specs.Book.{readingBookOf, readingBookLength}
 use Rattle.cipher.specs.declared.size.KeySize.{KeySize}
-use Rattle.cipher.specs.declared.size.SizeFound.the-variants.{Found}
+use Rattle.cipher.specs.declared.schedules.Schedule.{Schedule}
 use Rattle.cipher.proofs.ChainPartLaws.{message-read, set-read, middle-read, mask-read, from-valid}
 use Rattle.claims.specs.Identity.{identityChain, shift, shiftAt, allSet, topsUnset, shiftingChain, shiftedChain, shiftedReadingChain}
 use Rattle.claims.specs.Built.{Built, bookIn, archiveSet}
@@ -161,30 +161,30 @@ tops-differ c z = parts-differ (rounds z) _ _ _ _ _ (λ l k hl hk h. sym (ap (λ
 
 -- ---- with the identity chain and with the one that shifts a book is built, into every buffer that has room for it
 
-module _ (z : KeySize) (key : List ℕ) (e : sizeOfKey (length key) ≡ Found z) (out : List ℕ) (h : bookLength z ≤ length out) where
-  pub met : Built key (identityChain z) out (wholeBook z (keyRows z key) (identityChain z) ++ drop (bookLength z) out)
-  met = any-built z key (identityChain z) out e (identity-valid z) h
+module _ (schedule : ℕ) (k : Schedule) (z : KeySize) (key : List ℕ) (e : Named schedule key k z) (out : List ℕ) (h : bookLength z ≤ length out) where
+  pub met : Built schedule key (identityChain z) out (wholeBook z (keyRows k z key) (identityChain z) ++ drop (bookLength z) out)
+  met = any-built schedule k z key (identityChain z) out e (identity-valid z) h
 
-  pub met-shifted : Built key (shiftedChain z) out (wholeBook z (keyRows z key) (shiftedChain z) ++ drop (bookLength z) out)
-  met-shifted = any-built z key (shiftedChain z) out e (shifted-valid z) h
+  pub met-shifted : Built schedule key (shiftedChain z) out (wholeBook z (keyRows k z key) (shiftedChain z) ++ drop (bookLength z) out)
+  met-shifted = any-built schedule k z key (shiftedChain z) out e (shifted-valid z) h
 
 -- ---- and beside the second a reading book: a message's file is read there
 
-module _ (key : List ℕ) (e : sizeOfKey (length key) ≡ Found (keySize key)) (out rout : List ℕ) (room : bookLength (keySize key) ≤ length out)
+module _ (schedule : ℕ) (k : Schedule) (key : List ℕ) (e : Named schedule key k (keySize key)) (out rout : List ℕ) (room : bookLength (keySize key) ≤ length out)
     (rroom : readingBookLength (keySize key) ≤ length rout) where
   abbrev z : KeySize
   z = keySize key
 
   abbrev filled : List ℕ
-  filled = wholeBook z (keyRows z key) (shiftedChain z) ++ drop (bookLength z) out
+  filled = wholeBook z (keyRows k z key) (shiftedChain z) ++ drop (bookLength z) out
 
   abbrev filledToRead : List ℕ
-  filledToRead = readingBookOf (rounds z) (keyRows z key) (shiftedReadingChain z) ++ drop (readingBookLength z) rout
+  filledToRead = readingBookOf (rounds z) (keyRows k z key) (shiftedReadingChain z) ++ drop (readingBookLength z) rout
 
-  pub met-reading : ReadingBuilt key (shiftedReadingChain (keySize key)) rout filledToRead
-  met-reading = any-reading-built z key (shiftedReadingChain z) rout e (shifted-reading-valid z) rroom
+  pub met-reading : ReadingBuilt schedule key (shiftedReadingChain (keySize key)) rout filledToRead
+  met-reading = any-reading-built schedule k z key (shiftedReadingChain z) rout e (shifted-reading-valid z) rroom
 
   pub met-review : Bytes key → (m iv : List ℕ) → Bytes m → length m ≤ longestMessage → length iv ≡ blockLength
       → Reviewed key (shiftedChain (keySize key)) (shiftedReadingChain (keySize key)) (bookIn key filled) (readingBookIn key filledToRead) iv m
   met-review hk m iv hm most li =
-      reviews key (shiftedChain z) out filled (shiftedReadingChain z) rout filledToRead (met-shifted z key e out room) met-reading (sets-meet key) hk m iv hm most li
+      reviews schedule key (shiftedChain z) out filled (shiftedReadingChain z) rout filledToRead (met-shifted schedule k z key e out room) met-reading (sets-meet key) hk m iv hm most li

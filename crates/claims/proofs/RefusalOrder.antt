@@ -33,16 +33,16 @@ model-order (lastCall m k) s = refl
 pub order : Order
 unfolding follows standsIn standsBefore noneBefore setTests chainTestsBy codingTests recordTests makeTests makeReadingTests
 order = record {
-  on-block = λ key b. in-order (keyBlockTests key b) refl;
-  round-keys = λ key. in-order (keyTests key) refl;
+  on-block = λ schedule key b. in-order (keyBlockTests schedule key b) refl;
+  round-keys = λ schedule key. in-order (keyTests schedule key) refl;
   check-set = λ s. in-order (setTests s) refl;
   check-chain = λ n ch. in-order (chainCheckTests n ch) refl;
   making = λ n random out. in-order (makeTests n random out) refl;
   making-reading = λ n set random out. in-order (makeReadingTests n set random out) refl;
-  building = λ key ch out. in-order (buildTests key ch out bookLength) refl;
-  build-round = λ key ch out. in-order (buildTests key ch out (λ z. roundLength)) refl;
+  building = λ schedule key ch out. in-order (buildTests schedule key ch out bookLength) refl;
+  build-round = λ schedule key ch out. in-order (buildTests schedule key ch out (λ z. roundLength)) refl;
   check-reading-chain = λ n ch. in-order (readingChainCheckTests n ch) refl;
-  building-reading = λ key ch out. in-order (buildTestsBy 3 0 key ch out readingBookLength) refl;
+  building-reading = λ schedule key ch out. in-order (buildTestsBy 3 0 schedule key ch out readingBookLength) refl;
   reading = λ bk iv sealed out. in-order (readTests bk iv sealed out) refl;
   ink-record = λ file k at. in-order (recordTests file k at) refl;
   ink-field = λ k kind n length out. in-order (fieldTests k kind n length out) refl;
@@ -53,7 +53,7 @@ order = record {
   beginning = λ bk. in-order (bookTests bk) refl;
   block-call = λ bk m s. in-order (blockCallTests bk m s) refl;
   last-call = λ bk m k s. in-order (lastCallTests bk m k s) refl;
-  opening = λ key set iv sealed out. in-order (allOpenTests key set iv sealed out) refl;
-  checking = λ key set message tag. in-order (checkTests key set message tag) refl;
+  opening = λ schedule key set iv sealed out. in-order (allOpenTests schedule key set iv sealed out) refl;
+  checking = λ schedule key set message tag. in-order (checkTests schedule key set message tag) refl;
   model = λ c s. in-order (refusals c s) (model-order c s);
 }

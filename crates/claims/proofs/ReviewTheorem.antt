@@ -11,11 +11,12 @@ use Rattle.lists.proofs.BlockLaws.{Blocks, none, more, blocks-flatten}
 use Rattle.lists.proofs.ChunkLaws.{length-chunks}
 use Rattle.cipher.specs.KeySize.{rounds}
 use Rattle.cipher.specs.Lengths.{setLength}
-use Rattle.cipher.specs.Lea.{keyRows, decipher}
+use Rattle.cipher.specs.Schedules.{keyRows}
+use Rattle.cipher.specs.Lea.{decipher}
 use Rattle.cipher.specs.Coding.{Set, Permutations, setOf, decoded}
 use Rattle.cipher.specs.Chain.{messageSet, chainSet}
-use Rattle.cipher.specs.Answers.{keySize, badText}
-use Rattle.cipher.proofs.ScheduleLaws.{key-words}
+use Rattle.cipher.specs.Answers.{scheduleOf, keySize, badText}
+use Rattle.cipher.proofs.SchedulesLaws.{key-words}
 use Rattle.cipher.proofs.CodingLaws.{Agree, block-decoded}
 use Rattle.cipher.proofs.ChainTests.{lone-agree}
 use Rattle.cipher.proofs.AnswerLaws.{text-known}
@@ -48,8 +49,8 @@ length-read bk r iv sealed good =
 
 -- ---- a reading book of a key's rows and a reading chain
 
-module _ (key : List ℕ) (hk : Bytes key) (ch bk : List ℕ) (v : ReadingChain (keySize key) ch)
-    (h : ReadingBook (keyRounds key) (keyRows (keySize key) key) ch bk) (iv sealed : List ℕ) (li : length iv ≡ 16) (good : badText (length sealed) ≡ false) where
+module _ (schedule : ℕ) (key : List ℕ) (hk : Bytes key) (ch bk : List ℕ) (v : ReadingChain (keySize key) ch)
+    (h : ReadingBook (keyRounds key) (keyRows (scheduleOf schedule) (keySize key) key) ch bk) (iv sealed : List ℕ) (li : length iv ≡ 16) (good : badText (length sealed) ≡ false) where
   abbrev shown : List ℕ
   shown = shownOf key bk iv sealed
 
@@ -63,39 +64,39 @@ module _ (key : List ℕ) (hk : Bytes key) (ch bk : List ℕ) (v : ReadingChain 
   agree : Agree (chainSet ch 0) (setOf (firstSet ch))
   agree w j x hw hj hx = sym (lone-agree (drop setLength ch) w j x hw hj hx)
 
-  text-is : textOpened (messageSet ch) (shownOf key bk iv sealed) ≡ openedText (decipher (keySize key) key) (setOf (firstSet ch)) iv sealed
+  text-is : textOpened (messageSet ch) (shownOf key bk iv sealed) ≡ openedText (decipher (scheduleOf schedule) (keySize key) key) (setOf (firstSet ch)) iv sealed
   unfolding openedText
-  text-is = shown-under (keySize key) (keyRows (keySize key) key) (key-words (keySize key) key hk) ch bk v h (setOf (firstSet ch)) agree iv sealed
+  text-is = shown-under (keySize key) (keyRows (scheduleOf schedule) (keySize key) key) (key-words (scheduleOf schedule) (keySize key) key hk) ch bk v h (setOf (firstSet ch)) agree iv sealed
 
-  each-is : map (decoded (messageSet ch)) (blocks (shownOf key bk iv sealed)) ≡ blocks (openedText (decipher (keySize key) key) (setOf (firstSet ch)) iv sealed)
+  each-is : map (decoded (messageSet ch)) (blocks (shownOf key bk iv sealed)) ≡ blocks (openedText (decipher (scheduleOf schedule) (keySize key) key) (setOf (firstSet ch)) iv sealed)
   unfolding textOpened
   each-is =
       sym (blocks-flatten (map (decoded (messageSet ch)) (blocks shown)) (decoded-blocks (messageSet ch) (v .codings .message) (blocks shown))) ∙ ap blocks text-is
 
-  pub like-opened : LikeOpened key ch (firstSet ch) bk iv sealed
+  pub like-opened : LikeOpened schedule key ch (firstSet ch) bk iv sealed
   like-opened = record { reading = reading-writes; size = length-read bk (keyRounds key) iv sealed good; text = text-is; each = each-is }
 
 -- ---- what is built
 
-pub shows : (key ch out held : List ℕ) → ReadingBuilt key ch out held → Bytes key → Shows key ch (readingBookIn key held)
-shows key ch out held built hk iv sealed li good =
-    like-opened key hk ch (readingBookIn key held) (reading-built-chain key ch out held built) (reading-built-book key ch out held built) iv sealed li good
+pub shows : (schedule : ℕ) (key ch out held : List ℕ) → ReadingBuilt schedule key ch out held → Bytes key → Shows schedule key ch (readingBookIn key held)
+shows schedule key ch out held built hk iv sealed li good =
+    like-opened schedule key hk ch (readingBookIn key held) (reading-built-chain schedule key ch out held built) (reading-built-book schedule key ch out held built) iv sealed li good
 
 pub shows-for-all : ShowsForAll
-shows-for-all z key ch out e hk v room =
-    let held = readingBookOf (rounds z) (keyRows z key) ch ++ drop (readingBookLength z) out in
-    let built = any-reading-built z key ch out e v room in
-    record { held = held; built = built; holds = shows key ch out held built hk }
+shows-for-all schedule k z key ch out e hk v room =
+    let held = readingBookOf (rounds z) (keyRows k z key) ch ++ drop (readingBookLength z) out in
+    let built = any-reading-built schedule k z key ch out e v room in
+    record { held = held; built = built; holds = shows schedule key ch out held built hk }
 
 -- ---- beside a sealing book
 
 pub reviews : Reviews
-reviews key ch out held rch rout rheld built rbuilt same hk m iv hm most li =
+reviews schedule key ch out held rch rout rheld built rbuilt same hk m iv hm most li =
     let file = fileOf (padSet ch) (bookIn key held) iv m in
-    let like = shows key rch rout rheld rbuilt hk iv file li (file-good key ch out held built hk m iv hm most li) in
+    let like = shows schedule key rch rout rheld rbuilt hk iv file li (file-good schedule key ch out held built hk m iv hm most li) in
     record {
       reading = like .reading;
       shown = like .text
-          ∙ ap (λ (s : List ℕ). openedText (decipher (keySize key) key) (setOf s) iv file) same
-          ∙ opened-is key ch out held built hk m iv hm most li;
+          ∙ ap (λ (s : List ℕ). openedText (decipher (scheduleOf schedule) (keySize key) key) (setOf s) iv file) same
+          ∙ opened-is schedule key ch out held built hk m iv hm most li;
     }

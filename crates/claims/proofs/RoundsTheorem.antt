@@ -6,11 +6,11 @@ use mathlib.Core.List.{List}
 use Prim.Native.Nat.{ℕ, _≤_}
 use lib.ListN.{length}
 use Rattle.cipher.specs.KeySize.{rounds}
-use Rattle.cipher.specs.Lea.{keyRows}
+use Rattle.cipher.specs.Schedules.{keyRows}
 use Rattle.cipher.specs.Coding.{decoded}
 use Rattle.cipher.specs.Chain.{chainSet, Chain}
 use Rattle.cipher.specs.Book.{bookBody, Book}
-use Rattle.cipher.specs.Answers.{keySize}
+use Rattle.cipher.specs.Answers.{scheduleOf, keySize}
 use Rattle.cipher.specs.declared.size.KeySize.{KeySize}
 use Rattle.cipher.specs.declared.size.SizeFound.the-variants.{Found}
 use Rattle.cipher.proofs.BookMeaning.{book-rounds}
@@ -27,8 +27,8 @@ after-rounds z rows ch bk v h found b l n p q =
     (ap (λ (r : ℕ × List ℕ). r .0) e, ap (λ (r : ℕ × List ℕ). decoded (chainSet ch n) (r .1)) e ∙ book-rounds z rows ch (bookBody bk) v h b n q)
 
 -- for every key, chain and buffer with which a book is built
-pub after-rounds-built : (key ch out held : List ℕ) → Built key ch out held
-    → (b : List ℕ) → length b ≡ 16 → (n : ℕ) → 1 ≤ n → n ≤ keyRounds key → RoundsOfLea (keyRows (keySize key) key) ch (bookIn key held) n b
-after-rounds-built key ch out held h =
-    after-rounds (keySize key) (keyRows (keySize key) key) ch (bookIn key held) (built-chain key ch out held h) (built-book key ch out held h)
-    (built-found key ch out held h)
+pub after-rounds-built : (schedule : ℕ) (key ch out held : List ℕ) → Built schedule key ch out held
+    → (b : List ℕ) → length b ≡ 16 → (n : ℕ) → 1 ≤ n → n ≤ keyRounds key → RoundsOfLea (keyRows (scheduleOf schedule) (keySize key) key) ch (bookIn key held) n b
+after-rounds-built schedule key ch out held h =
+    after-rounds (keySize key) (keyRows (scheduleOf schedule) (keySize key) key) ch (bookIn key held) (built-chain schedule key ch out held h) (built-book schedule key ch out held h)
+    (built-found schedule key ch out held h)

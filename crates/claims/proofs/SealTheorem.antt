@@ -8,15 +8,15 @@ use Prim.Native.Nat.{ℕ, _+_, _/_, _≤_}
 use native.Mathlib.Omega.{arith}
 use lib.ListN.{length, drop}
 use Rattle.lists.specs.Blocks.{Bytes, blocks}
-use Rattle.cipher.specs.Lea.{keyRows}
+use Rattle.cipher.specs.Schedules.{keyRows}
 use Rattle.cipher.specs.Lea.{encipher, decipher}
 use Rattle.cipher.specs.Cbc.{cbcEnciphered, cbcDeciphered}
 use Rattle.cipher.specs.Coding.{setOf, decoded}
 use Rattle.cipher.specs.Chain.{messageSet, Chain}
 use Rattle.cipher.specs.Book.{bookBody, Book}
-use Rattle.cipher.specs.Answers.{keySize, badText}
+use Rattle.cipher.specs.Answers.{scheduleOf, keySize, badText}
 use Rattle.cipher.specs.declared.size.SizeFound.the-variants.{Found}
-use Rattle.cipher.proofs.ScheduleLaws.{key-words}
+use Rattle.cipher.proofs.SchedulesLaws.{key-words}
 use Rattle.cipher.proofs.AnswerLaws.{text-good}
 use Rattle.pad.specs.Padding.{paddedForSealing, codedText}
 use Rattle.pad.specs.Answers.{sealingAnswer}
@@ -29,12 +29,12 @@ use Rattle.archive.specs.Archive.{openedText, endsPadded, unpadded, openAnswer}
 use Rattle.archive.proofs.AnswerLaws.{open-9, open-done}
 use Rattle.claims.specs.Built.{Built, bookIn, keyRounds, padSet, archiveSet}
 use Rattle.claims.specs.Sealing.{codeOf, fileOf, Writes, SealedWay}
-use Rattle.claims.proofs.BuiltLaws.{built-size, built-chain, built-book, built-found}
+use Rattle.claims.proofs.BuiltLaws.{built-named, built-chain, built-book, built-found}
 use Rattle.claims.proofs.LoneSets.{pad-set, archive-set, pad-coded, archive-decoded}
 use Rattle.claims.proofs.SealedText.{ends-padded, padding-off, length-file, enciphered-sealed, opened-sealed}
 
 -- the three calls, for every key, chain and buffer with which a book is built
-module _ (key ch out held : List ℕ) (built : Built key ch out held) (hk : Bytes key) (m iv : List ℕ) (hm : Bytes m) (most : length m ≤ 1048575) (li : length iv ≡ 16) where
+module _ (schedule : ℕ) (key ch out held : List ℕ) (built : Built schedule key ch out held) (hk : Bytes key) (m iv : List ℕ) (hm : Bytes m) (most : length m ≤ 1048575) (li : length iv ≡ 16) where
   abbrev u : List ℕ
   u = padSet ch
 
@@ -48,10 +48,10 @@ module _ (key ch out held : List ℕ) (built : Built key ch out held) (hk : Byte
   padded = paddedForSealing m
 
   valid : Chain (keySize key) ch
-  valid = built-chain key ch out held built
+  valid = built-chain schedule key ch out held built
 
-  made : Book (keyRounds key) (keyRows (keySize key) key) ch (bookBody (bookIn key held))
-  made = built-book key ch out held built
+  made : Book (keyRounds key) (keyRows (scheduleOf schedule) (keySize key) key) ch (bookBody (bookIn key held))
+  made = built-book schedule key ch out held built
 
   code-is : codeOf u m ≡ codedText (messageSet ch) padded
   unfolding codedText
@@ -63,7 +63,7 @@ module _ (key ch out held : List ℕ) (built : Built key ch out held) (hk : Byte
   pub file-length : length (fileOf (padSet ch) (bookIn key held) iv m) ≡ length (paddedForSealing m)
   file-length =
       ap (λ (c : List ℕ). length (sealed (bookBody book) iv c)) code-is
-      ∙ length-file (keySize key) (keyRows (keySize key) key) ch (bookBody book) valid made (key-words (keySize key) key hk) iv padded (length m / 16 + 1) (sealing-blocks m)
+      ∙ length-file (keySize key) (keyRows (scheduleOf schedule) (keySize key) key) ch (bookBody book) valid made (key-words (scheduleOf schedule) (keySize key) key hk) iv padded (length m / 16 + 1) (sealing-blocks m)
 
   good : (n : ℕ) → n ≡ length padded → badText n ≡ false
   good n e =
@@ -72,14 +72,14 @@ module _ (key ch out held : List ℕ) (built : Built key ch out held) (hk : Byte
   pub file-good : badText (length (fileOf (padSet ch) (bookIn key held) iv m)) ≡ false
   file-good = good (length (fileOf u book iv m)) file-length
 
-  pub opened-is : openedText (decipher (keySize key) key) (setOf (archiveSet key ch)) iv (fileOf (padSet ch) (bookIn key held) iv m) ≡ paddedForSealing m
+  pub opened-is : openedText (decipher (scheduleOf schedule) (keySize key) key) (setOf (archiveSet key ch)) iv (fileOf (padSet ch) (bookIn key held) iv m) ≡ paddedForSealing m
   unfolding openedText
   opened-is =
-      ap₂ (λ (d : List ℕ → List ℕ) (c : List ℕ). flatten (cbcDeciphered (decipher (keySize key) key) (d iv) (map d (blocks (sealed (bookBody book) iv c))))) (archive-decoded key ch valid) code-is
-      ∙ opened-sealed (keySize key) (keyRows (keySize key) key) ch (bookBody book) valid made (key-words (keySize key) key hk) iv padded (length m / 16 + 1) (sealing-blocks m)
+      ap₂ (λ (d : List ℕ → List ℕ) (c : List ℕ). flatten (cbcDeciphered (decipher (scheduleOf schedule) (keySize key) key) (d iv) (map d (blocks (sealed (bookBody book) iv c))))) (archive-decoded key ch valid) code-is
+      ∙ opened-sealed (keySize key) (keyRows (scheduleOf schedule) (keySize key) key) ch (bookBody book) valid made (key-words (scheduleOf schedule) (keySize key) key hk) iv padded (length m / 16 + 1) (sealing-blocks m)
       (sealing-bytes m hm)
 
-  message-back : unpadded (openedText (decipher (keySize key) key) (setOf s) iv (fileOf u book iv m)) ≡ m
+  message-back : unpadded (openedText (decipher (scheduleOf schedule) (keySize key) key) (setOf s) iv (fileOf u book iv m)) ≡ m
   message-back = ap unpadded opened-is ∙ padding-off m
 
   coding-writes : Writes (sealingAnswer u m) (length (codeOf u m)) (codeOf u m)
@@ -90,7 +90,7 @@ module _ (key ch out held : List ℕ) (built : Built key ch out held) (hk : Byte
   }
 
   found : admitAnswer book ≡ (0, Found (keySize key))
-  found = built-found key ch out held built
+  found = built-found schedule key ch out held built
 
   sealing-writes : Writes (sealAnswer book iv (codeOf u m)) (length (fileOf u book iv m)) (fileOf u book iv m)
   sealing-writes = record {
@@ -99,21 +99,21 @@ module _ (key ch out held : List ℕ) (built : Built key ch out held) (hk : Byte
         ∙ ap (λ (k : ℕ). ((0, k), fileOf u book iv m ++ drop k o)) (code-length ∙ sym file-length);
   }
 
-  opening-writes : Writes (openAnswer key s iv (fileOf u book iv m)) (length (fileOf u book iv m)) m
+  opening-writes : Writes (openAnswer schedule key s iv (fileOf u book iv m)) (length (fileOf u book iv m)) m
   opening-writes = record {
-    short = λ o h. open-9 key s iv (fileOf u book iv m) o (keySize key) (built-size key ch out held built) (archive-set key ch valid) li
+    short = λ o h. open-9 schedule key s iv (fileOf u book iv m) o (scheduleOf schedule) (keySize key) (built-named schedule key ch out held built) (archive-set key ch valid) li
         (good (length (fileOf u book iv m)) file-length) h;
-    written = λ o h. open-done key s iv (fileOf u book iv m) o (keySize key) (built-size key ch out held built) (archive-set key ch valid) li
+    written = λ o h. open-done schedule key s iv (fileOf u book iv m) o (scheduleOf schedule) (keySize key) (built-named schedule key ch out held built) (archive-set key ch valid) li
         (good (length (fileOf u book iv m)) file-length) h (ap endsPadded opened-is ∙ ends-padded padded (sealing-padded m))
         ∙ ap (λ (x : List ℕ). ((0, length x), x ++ drop (length x) o)) message-back;
   }
 
-  blocks-enciphered : map (decoded (setOf s)) (blocks (fileOf u book iv m)) ≡ cbcEnciphered (encipher (keySize key) key) (decoded (setOf s) iv) (blocks padded)
+  blocks-enciphered : map (decoded (setOf s)) (blocks (fileOf u book iv m)) ≡ cbcEnciphered (encipher (scheduleOf schedule) (keySize key) key) (decoded (setOf s) iv) (blocks padded)
   blocks-enciphered =
       ap₂ (λ (d : List ℕ → List ℕ) (c : List ℕ). map d (blocks (sealed (bookBody book) iv c))) (archive-decoded key ch valid) code-is
-      ∙ enciphered-sealed (keySize key) (keyRows (keySize key) key) ch (bookBody book) valid made (key-words (keySize key) key hk) iv padded (length m / 16 + 1) (sealing-blocks m)
+      ∙ enciphered-sealed (keySize key) (keyRows (scheduleOf schedule) (keySize key) key) ch (bookBody book) valid made (key-words (scheduleOf schedule) (keySize key) key hk) iv padded (length m / 16 + 1) (sealing-blocks m)
       (sealing-bytes m hm)
-      ∙ ap (λ (d : List ℕ → List ℕ). cbcEnciphered (encipher (keySize key) key) (d iv) (blocks padded)) (sym (archive-decoded key ch valid))
+      ∙ ap (λ (d : List ℕ → List ℕ). cbcEnciphered (encipher (scheduleOf schedule) (keySize key) key) (d iv) (blocks padded)) (sym (archive-decoded key ch valid))
 
-  pub seal-built : SealedWay key (padSet ch) (archiveSet key ch) (bookIn key held) iv m
+  pub seal-built : SealedWay schedule key (padSet ch) (archiveSet key ch) (bookIn key held) iv m
   seal-built = record { coding = coding-writes; sealing = sealing-writes; opening = opening-writes; enciphered = blocks-enciphered }

@@ -9,12 +9,12 @@ use native.Mathlib.Omega.{arith}
 use lib.ListN.{length}
 use Rattle.lists.specs.Blocks.{xorBlock}
 use Rattle.cipher.specs.KeySize.{rounds}
-use Rattle.cipher.specs.Lea.{keyRows}
+use Rattle.cipher.specs.Schedules.{keyRows}
 use Rattle.cipher.specs.Lea.{firstRounds, encipher}
 use Rattle.cipher.specs.Coding.{Set, coded, decoded}
 use Rattle.cipher.specs.Chain.{messageSet, chainSet, Chain}
 use Rattle.cipher.specs.Book.{bookBody, groupKey, Book}
-use Rattle.cipher.specs.Answers.{keySize}
+use Rattle.cipher.specs.Answers.{scheduleOf, keySize}
 use Rattle.cipher.specs.declared.size.KeySize.{KeySize}
 use Rattle.cipher.specs.declared.size.SizeFound.the-variants.{Found}
 use Rattle.cipher.proofs.CodingLaws.{coded-decoded}
@@ -116,7 +116,7 @@ module _ (z : KeySize) (rows : List (List ℕ)) (ch bk : List ℕ) (v : Chain z 
   session cs = runs cs ((beginAnswer bk) .1) begun same-begun
 
 -- for every key, chain and buffer with which a book is built
-pub session-built : (key ch out held : List ℕ) → Built key ch out held → (cs : List Call)
-    → driverAnswers (bookIn key held) cs ≡ modelAnswers (encipher (keySize key) key) (messageSet ch) (chainSet ch (keyRounds key)) cs
-session-built key ch out held b cs =
-    session (keySize key) (keyRows (keySize key) key) ch (bookIn key held) (built-chain key ch out held b) (built-book key ch out held b) (built-found key ch out held b) cs
+pub session-built : (schedule : ℕ) (key ch out held : List ℕ) → Built schedule key ch out held → (cs : List Call)
+    → driverAnswers (bookIn key held) cs ≡ modelAnswers (encipher (scheduleOf schedule) (keySize key) key) (messageSet ch) (chainSet ch (keyRounds key)) cs
+session-built schedule key ch out held b cs =
+    session (keySize key) (keyRows (scheduleOf schedule) (keySize key) key) ch (bookIn key held) (built-chain schedule key ch out held b) (built-book schedule key ch out held b) (built-found schedule key ch out held b) cs

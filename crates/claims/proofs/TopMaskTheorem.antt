@@ -12,12 +12,12 @@ use Rattle.lists.specs.Blocks.{zeros, blocks, eachAfter}
 use Rattle.lists.specs.Refusals.{first}
 use Rattle.cipher.specs.Lengths.{foldLength, bodyStart, startLength, groupLength, roundLength, roundsStart}
 use Rattle.cipher.specs.KeySize.{sizeOfBook}
-use Rattle.cipher.specs.Lea.{keyRows}
+use Rattle.cipher.specs.Schedules.{keyRows}
 use Rattle.cipher.specs.Coding.{blockHalf}
 use Rattle.cipher.specs.Tables.{RoundCodings, tableRounds, foldHalf, tableFold}
 use Rattle.cipher.specs.Chain.{roundCodings}
 use Rattle.cipher.specs.Book.{bookRound, bookBody, startOf, groupAt, roundAt}
-use Rattle.cipher.specs.Answers.{keySize, blockTests, textTests, roomTests}
+use Rattle.cipher.specs.Answers.{scheduleOf, keySize, blockTests, textTests, roomTests}
 use Rattle.cipher.proofs.CodingLaws.{ofHalves-ext}
 use Rattle.cipher.proofs.BookLaw.{round-size, round-made}
 use Rattle.reading.specs.Tables.{readRound, readRounds}
@@ -253,17 +253,17 @@ module _ (r : ℕ) (rows : List (List ℕ)) (ch ch' : List ℕ) (d : ButTopMasks
 named : (Top : ℕ → Type 0) (a b x y : List ℕ) → x ≡ a → y ≡ b → ButTops Top a b → ButTops Top x y
 named Top a b x y ex ey h = subst (λ (u : List ℕ). ButTops Top u y) (sym ex) (subst (λ (u : List ℕ). ButTops Top a u) (sym ey) h)
 
-module _ (key ch ch' out out' held held' : List ℕ) (d : ButTopMasks (keyRounds key) ch ch') where
-  built-same : Built key ch out held → Built key ch' out' held' → SameAnswers (bookIn key held) (bookIn key held')
+module _ (schedule : ℕ) (key ch ch' out out' held held' : List ℕ) (d : ButTopMasks (keyRounds key) ch ch') where
+  built-same : Built schedule key ch out held → Built schedule key ch' out' held' → SameAnswers (bookIn key held) (bookIn key held')
   built-same b b' =
-      let alike = books-alike (keySize key) (keyRows (keySize key) key) ch ch' (built-chain key ch out held b .codings) d in
-      same-answers (bookIn key held) (bookIn key held') (named TopEntry _ _ _ _ (built-is key ch out held b) (built-is key ch' out' held' b') alike)
+      let alike = books-alike (keySize key) (keyRows (scheduleOf schedule) (keySize key) key) ch ch' (built-chain schedule key ch out held b .codings) d in
+      same-answers (bookIn key held) (bookIn key held') (named TopEntry _ _ _ _ (built-is schedule key ch out held b) (built-is schedule key ch' out' held' b') alike)
 
-  reading-built-same : ReadingBuilt key ch out held → ReadingBuilt key ch' out' held' → SameRead (readingBookIn key held) (readingBookIn key held')
+  reading-built-same : ReadingBuilt schedule key ch out held → ReadingBuilt schedule key ch' out' held' → SameRead (readingBookIn key held) (readingBookIn key held')
   reading-built-same b b' =
-      let alike = reading-books-alike (keySize key) (keyRows (keySize key) key) ch ch' (reading-built-chain key ch out held b .codings) d in
+      let alike = reading-books-alike (keySize key) (keyRows (scheduleOf schedule) (keySize key) key) ch ch' (reading-built-chain schedule key ch out held b .codings) d in
       same-read (readingBookIn key held) (readingBookIn key held')
-      (named TopReadingEntry _ _ _ _ (reading-built-is key ch out held b) (reading-built-is key ch' out' held' b') alike)
+      (named TopReadingEntry _ _ _ _ (reading-built-is schedule key ch out held b) (reading-built-is schedule key ch' out' held' b') alike)
 
 pub top-masks : TopMaskLaws
 top-masks = record {

@@ -91,7 +91,7 @@ module _ (key random out held : List ℕ) (k : ℕ) (made : Made key random out 
     valid = made-valid;
     checked = ap (λ (n : ℕ). chainChecked n (chainIn key held)) (found-length keyLength (length key) (keySize key) made-size)
         ∙ check-valid (chainIn key held) (keySize key) made-valid;
-    books = λ bout h. demand3-for-all (keySize key) key (chainIn key held) bout made-size hk made-valid h;
+    books = λ schedule j n bout h. demand3-for-all schedule j (keySize key) key (chainIn key held) bout (n, made-size) hk made-valid h;
   }
 
 -- ---- reading chains
@@ -131,7 +131,7 @@ module _ (key set random out held : List ℕ) (k : ℕ) (made : ReadingMade key 
         checked = ap (λ (n : ℕ). readingChainChecked n (chainIn key held)) (found-length keyLength (length key) (keySize key) reading-size)
             ∙ reading-valid (chainIn key held) (keySize key) v;
         first = ap firstSet same ∙ w .1;
-        books = λ bout h. shows-for-all (keySize key) key (chainIn key held) bout reading-size hk v h;
+        books = λ schedule j n bout h. shows-for-all schedule j (keySize key) key (chainIn key held) bout (n, reading-size) hk v h;
       }
 
 -- with a set that is valid, making a reading chain gives none of the refusals below 9
@@ -158,8 +158,8 @@ pub works-laws : WorksLaws
 works-laws = record {
   chains = λ key random out held k hk made. (made-count key random out held k made, made-taken key random out held k made hk);
   reading-chains = λ key set random out held k hk made. (reading-count key set random out held k made, reading-taken key set random out held k made hk);
-  reviews = λ key random out held random' out' held' k k' hk made rmade bout bheld rout rheld built rbuilt m iv hm most li.
-      reviews key (chainIn key held) bout bheld (chainIn key held') rout rheld built rbuilt
+  reviews = λ key random out held random' out' held' k k' hk made rmade schedule bout bheld rout rheld built rbuilt m iv hm most li.
+      reviews schedule key (chainIn key held) bout bheld (chainIn key held') rout rheld built rbuilt
       (reading-taken key (archiveSet key (chainIn key held)) random' out' held' k' rmade hk .first) hk m iv hm most li;
   sets = λ key random out held random' out' k made.
       (never key random out held k made random' out' 2 (lit< tt) (lit< tt), never key random out held k made random' out' 3 (lit< tt) (lit< tt));

@@ -6,7 +6,7 @@ use mathlib.Core.List.{List, [], _∷_, _++_}
 use Prim.Native.Nat.{ℕ, _≤_}
 use lib.ListN.{length, replicate}
 use Rattle.lists.specs.Blocks.{blockLength}
-use Rattle.cipher.specs.KeySize.{sizeOfKey}
+use Rattle.cipher.specs.Schedules.{Named}
 use Rattle.cipher.specs.Lea.{encipher, decipher}
 use Rattle.cipher.specs.Cmac.{double}
 use Rattle.cipher.specs.Coding.{setOf}
@@ -17,7 +17,8 @@ use Rattle.cipher.specs.Answers.{badText}
 use Rattle.cipher.specs.Vectors.{key16, plain16, cipher16}
 use Rattle.cipher.specs.declared.size.KeySize.{KeySize}
 use Rattle.cipher.specs.declared.size.KeySize.the-variants.{Bytes16}
-use Rattle.cipher.specs.declared.size.SizeFound.the-variants.{Found}
+use Rattle.cipher.specs.declared.schedules.Schedule.{Schedule}
+use Rattle.cipher.specs.declared.schedules.Schedule.the-variants.{Lea}
 use Rattle.pad.specs.Padding.{paddedForSealing, paddedForTag, kindOf}
 use Rattle.archive.specs.Archive.{openedText, openAnswer}
 
@@ -31,11 +32,11 @@ threeFive = 3 ∷ 5 ∷ replicate 4 0
 -- opening refuses every sealed text whose opened text ends so by 11
 abbrev pub Refused11 : List ℕ → Type 0
 Refused11 end =
-    (key set iv sealed out front : List ℕ) (z : KeySize) → sizeOfKey (length key) ≡ Found z → LoneSet set → length iv ≡ blockLength → badText (length sealed) ≡ false
-    → length sealed ≤ length out → openedText (decipher z key) (setOf set) iv sealed ≡ front ++ end → openAnswer key set iv sealed out ≡ ((11, 0), out)
+    (schedule : ℕ) (key set iv sealed out front : List ℕ) (k : Schedule) (z : KeySize) → Named schedule key k z → LoneSet set → length iv ≡ blockLength → badText (length sealed) ≡ false
+    → length sealed ≤ length out → openedText (decipher k z key) (setOf set) iv sealed ≡ front ++ end → openAnswer schedule key set iv sealed out ≡ ((11, 0), out)
 
 pub record Marked : Type 0 where
-  pub lea : encipher Bytes16 key16 plain16 ≡ cipher16
+  pub lea : encipher Lea Bytes16 key16 plain16 ≡ cipher16
   pub add : addTable (identityRound none) noKey 0 0 (triple 0 9 8) ≡ 17
   pub add-mask : addTable (identityRound (only 1)) noKey 0 0 (triple 0 9 8) ≡ 1
   -- at j = 7 (02, 2026-06) the carry out is under the mask at j = 0 of the same word, not of the next; the carry into j = 0 is under none

@@ -10,10 +10,10 @@ use lib.Dec.{eqb, leb}
 use lib.ListN.{length, drop}
 use Rattle.lists.specs.Blocks.{zeros}
 use Rattle.lists.specs.Refusals.{first}
-use Rattle.cipher.specs.Lea.{keyRows}
+use Rattle.cipher.specs.Schedules.{keyRows}
 use Rattle.cipher.specs.Tables.{tableRounds}
 use Rattle.cipher.specs.Book.{bookOf, startOf, roundAt}
-use Rattle.cipher.specs.Answers.{keySize, blockTests, textTests, roomTests}
+use Rattle.cipher.specs.Answers.{scheduleOf, keySize, blockTests, textTests, roomTests}
 use Rattle.cipher.specs.declared.size.KeySize.{KeySize}
 use Rattle.cipher.specs.declared.size.SizeFound.the-variants.{Found}
 use Rattle.driver.specs.Driver.{admitAnswer, roundsOf, runRoundsAnswer, pass, sealed, sealAnswer}
@@ -26,8 +26,8 @@ use Rattle.claims.specs.Built.{Built, bookIn, keyRounds}
 -- ---- bare books
 
 -- the bare book of a key and a chain ("Book")
-abbrev pub bareBook : List ℕ → List ℕ → List ℕ
-bareBook key ch = bookOf (keyRounds key) (keyRows (keySize key) key) ch
+abbrev pub bareBook : ℕ → List ℕ → List ℕ → List ℕ
+bareBook schedule key ch = bookOf (keyRounds key) (keyRows (scheduleOf schedule) (keySize key) key) ch
 
 -- refusal 6, with document 01's three lengths
 abbrev pub bareTests : List ℕ → List (Bool × ℕ)
@@ -79,8 +79,8 @@ pub record LikeBare (bk bare : List ℕ) : Type 0 where
 
 pub record FirstByteLaws : Type 0 where
   -- a book that is built has the key's length in front of the bare book of the same key and chain
-  pub built : (key ch out held : List ℕ) → Built key ch out held → bookIn key held ≡ length key ∷ bareBook key ch
+  pub built : (schedule : ℕ) (key ch out held : List ℕ) → Built schedule key ch out held → bookIn key held ≡ length key ∷ bareBook schedule key ch
   -- and tags and sealed files by it are what document 01 has of the bare one
-  pub like-bare : (key ch out held : List ℕ) → Built key ch out held → LikeBare (bookIn key held) (bareBook key ch)
+  pub like-bare : (schedule : ℕ) (key ch out held : List ℕ) → Built schedule key ch out held → LikeBare (bookIn key held) (bareBook schedule key ch)
   -- so it is of every book that is admitted, whatever its tables
   pub alike : (bk : List ℕ) (z : KeySize) → admitAnswer bk ≡ (0, Found z) → LikeBare bk (drop 1 bk)

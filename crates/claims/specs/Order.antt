@@ -33,8 +33,8 @@ fieldTests k kind n length out = kindTests k kind n ++ roomTests length out
 -- each operation, by the list of tests that the definition of its answer names
 pub record Order : Type 1 where
   -- LEA: enciphering, deciphering and the first rounds; and the round keys
-  pub on-block : (key b : List ℕ) → InOrder (keyBlockTests key b)
-  pub round-keys : (key : List ℕ) → InOrder (keyTests key)
+  pub on-block : (schedule : ℕ) (key b : List ℕ) → InOrder (keyBlockTests schedule key b)
+  pub round-keys : (schedule : ℕ) (key : List ℕ) → InOrder (keyTests schedule key)
   -- the checks of a lone set, and of a chain for a key of n bytes
   pub check-set : (s : List ℕ) → InOrder (setTests s)
   pub check-chain : (n : ℕ) (ch : List ℕ) → InOrder (chainCheckTests n ch)
@@ -42,11 +42,11 @@ pub record Order : Type 1 where
   pub making : (n : ℕ) (random out : List ℕ) → InOrder (makeTests n random out)
   pub making-reading : (n : ℕ) (set random out : List ℕ) → InOrder (makeReadingTests n set random out)
   -- the builder
-  pub building : (key ch out : List ℕ) → InOrder (buildTests key ch out bookLength)
-  pub build-round : (key ch out : List ℕ) → InOrder (buildTests key ch out (λ z. roundLength))
+  pub building : (schedule : ℕ) (key ch out : List ℕ) → InOrder (buildTests schedule key ch out bookLength)
+  pub build-round : (schedule : ℕ) (key ch out : List ℕ) → InOrder (buildTests schedule key ch out (λ z. roundLength))
   -- reading tables: the check of a reading chain, the builder, and reading
   pub check-reading-chain : (n : ℕ) (ch : List ℕ) → InOrder (readingChainCheckTests n ch)
-  pub building-reading : (key ch out : List ℕ) → InOrder (buildTestsBy 3 0 key ch out readingBookLength)
+  pub building-reading : (schedule : ℕ) (key ch out : List ℕ) → InOrder (buildTestsBy 3 0 schedule key ch out readingBookLength)
   pub reading : (bk iv sealed out : List ℕ) → InOrder (readTests bk iv sealed out)
   -- ink files: at a record of a file, and at one of a writer's fields with the buffer after it. Of several records the first at fault
   -- decides (`InkLaws` of inkfile)
@@ -62,7 +62,7 @@ pub record Order : Type 1 where
   pub block-call : (bk m : List ℕ) (s : Session) → InOrder (blockCallTests bk m s)
   pub last-call : (bk m : List ℕ) (k : ℕ) (s : Session) → InOrder (lastCallTests bk m k s)
   -- the archive
-  pub opening : (key set iv sealed out : List ℕ) → InOrder (allOpenTests key set iv sealed out)
-  pub checking : (key set message tag : List ℕ) → InOrder (checkTests key set message tag)
+  pub opening : (schedule : ℕ) (key set iv sealed out : List ℕ) → InOrder (allOpenTests schedule key set iv sealed out)
+  pub checking : (schedule : ℕ) (key set message tag : List ℕ) → InOrder (checkTests schedule key set message tag)
   -- the model session
   pub model : (c : Call) (s : State) → InOrder (refusals c s)

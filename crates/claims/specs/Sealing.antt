@@ -8,7 +8,7 @@ use Rattle.lists.specs.Blocks.{blocks}
 use Rattle.cipher.specs.Lea.{encipher}
 use Rattle.cipher.specs.Cbc.{cbcEnciphered}
 use Rattle.cipher.specs.Coding.{setOf, decoded}
-use Rattle.cipher.specs.Answers.{keySize}
+use Rattle.cipher.specs.Answers.{scheduleOf, keySize}
 use Rattle.cipher.specs.Book.{bookBody}
 use Rattle.pad.specs.Padding.{paddedForSealing, codedText}
 use Rattle.pad.specs.Answers.{sealingAnswer}
@@ -30,8 +30,8 @@ pub record Writes (answer : List ℕ → (ℕ × ℕ) × List ℕ) (room : ℕ) 
 
 -- none of the three calls gives another refusal than 9, and opening gives back the message and its length. The sealed file's blocks,
 -- decoded by the set s, are the padded message's enciphered under the key in CBC (SP 800-38A) from the decoded IV
-pub record SealedWay (key u s bk iv m : List ℕ) : Type 0 where
+pub record SealedWay (schedule : ℕ) (key u s bk iv m : List ℕ) : Type 0 where
   pub coding : Writes (sealingAnswer u m) (length (codeOf u m)) (codeOf u m)
   pub sealing : Writes (sealAnswer bk iv (codeOf u m)) (length (fileOf u bk iv m)) (fileOf u bk iv m)
-  pub opening : Writes (openAnswer key s iv (fileOf u bk iv m)) (length (fileOf u bk iv m)) m
-  pub enciphered : map (decoded (setOf s)) (blocks (fileOf u bk iv m)) ≡ cbcEnciphered (encipher (keySize key) key) (decoded (setOf s) iv) (blocks (paddedForSealing m))
+  pub opening : Writes (openAnswer schedule key s iv (fileOf u bk iv m)) (length (fileOf u bk iv m)) m
+  pub enciphered : map (decoded (setOf s)) (blocks (fileOf u bk iv m)) ≡ cbcEnciphered (encipher (scheduleOf schedule) (keySize key) key) (decoded (setOf s) iv) (blocks (paddedForSealing m))

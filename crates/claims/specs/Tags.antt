@@ -9,8 +9,8 @@ use Rattle.claims.specs.Calls.{tagsOf}
 
 -- among the answers is exactly one tag; with the key and the set s, checking says Valid to it for the message m, and Invalid to
 -- every other 16 bytes
-pub record OneTag (key s m : List ℕ) (answers : List Answer) : Type 0 where
+pub record OneTag (schedule : ℕ) (key s m : List ℕ) (answers : List Answer) : Type 0 where
   pub theTag : List ℕ
   pub one : tagsOf answers ≡ theTag ∷ []
-  pub valid : checkAnswer key s m theTag ≡ (0, 1)
-  pub others : (t : List ℕ) → Block t → (t ≡ theTag → ⊥) → checkAnswer key s m t ≡ (0, 0)
+  pub valid : checkAnswer schedule key s m theTag ≡ (0, 1)
+  pub others : (t : List ℕ) → Block t → (t ≡ theTag → ⊥) → checkAnswer schedule key s m t ≡ (0, 0)

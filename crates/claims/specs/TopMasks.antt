@@ -90,7 +90,7 @@ pub record TopMaskLaws : Type 0 where
   pub same : (bk bk' : List ℕ) → ButTops TopEntry bk bk' → SameAnswers bk bk'
   pub same-read : (bk bk' : List ℕ) → ButTops TopReadingEntry bk bk' → SameRead bk bk'
   -- so sealed files, tags and what is read are the same by whatever is built of one key and two such chains
-  pub built : (key ch ch' out out' held held' : List ℕ) → ButTopMasks (keyRounds key) ch ch' → Built key ch out held → Built key ch' out' held'
+  pub built : (schedule : ℕ) (key ch ch' out out' held held' : List ℕ) → ButTopMasks (keyRounds key) ch ch' → Built schedule key ch out held → Built schedule key ch' out' held'
       → SameAnswers (bookIn key held) (bookIn key held')
-  pub reading-built : (key ch ch' out out' held held' : List ℕ) → ButTopMasks (keyRounds key) ch ch' → ReadingBuilt key ch out held → ReadingBuilt key ch' out' held'
+  pub reading-built : (schedule : ℕ) (key ch ch' out out' held held' : List ℕ) → ButTopMasks (keyRounds key) ch ch' → ReadingBuilt schedule key ch out held → ReadingBuilt schedule key ch' out' held'
       → SameRead (readingBookIn key held) (readingBookIn key held')

@@ -7,8 +7,11 @@ use lib.ListN.{length, take}
 use Rattle.lists.specs.Blocks.{Bytes, blockLength}
 use Rattle.cipher.specs.KeySize.{bookLength, chainLength}
 use Rattle.cipher.specs.Lengths.{longestMessage}
+use Rattle.cipher.specs.Schedules.{scheduleFound}
 use Rattle.cipher.specs.Chain.{Chain}
 use Rattle.cipher.specs.Answers.{keySize, chainChecked}
+use Rattle.cipher.specs.declared.schedules.Schedule.{Schedule}
+use Rattle.cipher.specs.declared.schedules.ScheduleFound.the-variants.{Numbered}
 use Rattle.reading.specs.Chain.{ReadingChain}
 use Rattle.reading.specs.Book.{readingBookLength}
 use Rattle.reading_book.specs.Answers.{readingChainChecked}
@@ -28,18 +31,20 @@ ReadingMade key set random out k held = makeReadingAnswer (length key) set rando
 abbrev pub chainIn : List ℕ → List ℕ → List ℕ
 chainIn key held = take (chainLength (keySize key)) held
 
--- a chain that is valid, as the check tells, and of which a book is built that does what demand 3 asks
+-- a chain that is valid, as the check tells, and of which by either schedule a book is built that does what demand 3 asks
 pub record ChainTaken (key ch : List ℕ) : Type 0 where
   pub valid : Chain (keySize key) ch
   pub checked : chainChecked (length key) ch ≡ 0
-  pub books : (out : List ℕ) → bookLength (keySize key) ≤ length out → BuiltDemand3 key ch out
+  pub books : (schedule : ℕ) (k : Schedule) → scheduleFound schedule ≡ Numbered k → (out : List ℕ) → bookLength (keySize key) ≤ length out
+      → BuiltDemand3 schedule key ch out
 
--- the same of a reading chain, whose set 0 is the set s, and of which a reading book is built that shows what the archive opens
+-- the same of a reading chain, whose set 0 is the set s, and of which by either schedule a reading book is built that shows what the archive opens
 pub record ReadingTaken (key s ch : List ℕ) : Type 0 where
   pub valid : ReadingChain (keySize key) ch
   pub checked : readingChainChecked (length key) ch ≡ 0
   pub first : firstSet ch ≡ s
-  pub books : (out : List ℕ) → readingBookLength (keySize key) ≤ length out → BuiltShows key ch out
+  pub books : (schedule : ℕ) (k : Schedule) → scheduleFound schedule ≡ Numbered k → (out : List ℕ) → readingBookLength (keySize key) ≤ length out
+      → BuiltShows schedule key ch out
 
 pub record WorksLaws : Type 0 where
   pub chains : (key random out held : List ℕ) (k : ℕ) → Bytes key → Made key random out k held → (k ≤ length random) × ChainTaken key (chainIn key held)
@@ -47,8 +52,8 @@ pub record WorksLaws : Type 0 where
       → (k ≤ length random) × ReadingTaken key set (chainIn key held)
   -- what the book of a chain that was made seals, the reading book of a reading chain that was made from the archive's set shows: the padded message
   pub reviews : (key random out held random' out' held' : List ℕ) (k k' : ℕ) → Bytes key → Made key random out k held
-      → ReadingMade key (archiveSet key (chainIn key held)) random' out' k' held' → (bout bheld rout rheld : List ℕ) → Built key (chainIn key held) bout bheld
-      → ReadingBuilt key (chainIn key held') rout rheld → (m iv : List ℕ) → Bytes m → length m ≤ longestMessage → length iv ≡ blockLength
+      → ReadingMade key (archiveSet key (chainIn key held)) random' out' k' held' → (schedule : ℕ) (bout bheld rout rheld : List ℕ) → Built schedule key (chainIn key held) bout bheld
+      → ReadingBuilt schedule key (chainIn key held') rout rheld → (m iv : List ℕ) → Bytes m → length m ≤ longestMessage → length iv ≡ blockLength
       → Reviewed key (chainIn key held) (chainIn key held') (bookIn key bheld) (readingBookIn key rheld) iv m
   -- the archive's set of a chain that was made is never refused
   pub sets : (key random out held random' out' : List ℕ) (k : ℕ) → Made key random out k held

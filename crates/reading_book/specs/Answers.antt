@@ -5,7 +5,7 @@ use mathlib.Core.List.{List, _++_}
 use Prim.Native.Nat.{ℕ}
 use Rattle.lists.specs.Refusals.{first}
 use Rattle.cipher.specs.KeySize.{rounds}
-use Rattle.cipher.specs.Lea.{keyRows}
+use Rattle.cipher.specs.Schedules.{keyRows}
 use Rattle.cipher.specs.Answers.{keyLengthTests, keyLengthSize}
 use Rattle.book.specs.Answers.{builtInto}
 use Rattle.reading.specs.Chain.{readingChainTests}
@@ -19,5 +19,5 @@ abbrev pub readingChainChecked : ℕ → List ℕ → ℕ
 readingChainChecked n ch = first (readingChainCheckTests n ch) (λ q. q) 0
 
 -- the reading book
-abbrev pub buildReadingAnswer : List ℕ → List ℕ → List ℕ → ℕ × List ℕ
-buildReadingAnswer key ch out = builtInto 3 0 key ch out readingBookLength (λ z. readingBookOf (rounds z) (keyRows z key) ch)
+abbrev pub buildReadingAnswer : ℕ → List ℕ → List ℕ → List ℕ → ℕ × List ℕ
+buildReadingAnswer s key ch out = builtInto 3 0 s key ch out readingBookLength (λ k z. readingBookOf (rounds z) (keyRows k z key) ch)

@@ -1,5 +1,5 @@
-// Building a reading book from a key and a reading chain (document 02, 2026-01). Refusals 1 to 5 are those
-// of key and chain; 9 is a buffer shorter than the book.
+// Building a reading book from a key and a reading chain (document 02, 2026-01). Refusals 34 and
+// 1 to 5 are those of schedule, key and chain; 9 is a buffer shorter than the book.
 ghost use mathlib.Core.Path.{_≡_};
 ghost use Prim.Native.Nat.{_≤_};
 ghost use lib.ListN.{length};
@@ -18,7 +18,9 @@ use cipher::invert::invert;
 use cipher::lengths;
 use cipher::refusal::Outcome;
 use cipher::refusal::Refusal;
-use cipher::schedule::key_rows;
+use cipher::schedules::Schedule;
+use cipher::schedules::ScheduleFound;
+use cipher::schedules::key_rows;
 use cipher::size::KeySize;
 use cipher::size::SizeFound;
 use reading::lengths::reading_len;
@@ -57,9 +59,12 @@ fn fill(size: KeySize, chain: &[u8], rows: [[u32; 6]; 32], out: &mut [u8])
 }
 
 // The reading book of a key and a reading chain, into the front of out.
-pub fn build_reading(key: &[u8], chain: &[u8], out: &mut [u8]) -> Outcome
-    ensures { λ r. ⌜ (outcomeOf r, now (out .exit)) ≡ buildReadingAnswer (now (key .entry)) (now (chain .entry)) (now (out .entry)) ⌝ }
+pub fn build_reading(schedule: u8, key: &[u8], chain: &[u8], out: &mut [u8]) -> Outcome
+    ensures { λ r. ⌜ (outcomeOf r, now (out .exit)) ≡ buildReadingAnswer schedule (now (key .entry)) (now (chain .entry)) (now (out .entry)) ⌝ }
 {
+    let ScheduleFound::Numbered(named) = Schedule::of_number(schedule) else {
+        return Outcome::Refused(Refusal::ScheduleNumber);
+    };
     let SizeFound::Found(size) = KeySize::of_key_len(key.len()) else {
         return Outcome::Refused(Refusal::KeyLength);
     };
@@ -71,7 +76,7 @@ pub fn build_reading(key: &[u8], chain: &[u8], out: &mut [u8]) -> Outcome
     if out.len() < end {
         return Outcome::Refused(Refusal::ShortBuffer);
     }
-    let rows = key_rows(size, key);
+    let rows = key_rows(named, size, key);
     fill(size, chain, rows, &mut out[0..end]);
     Outcome::Done
 }

@@ -8,14 +8,16 @@ use native.Mathlib.Omega.{arith}
 use lib.ListN.{length, getD, take, drop, length-drop}
 use Rattle.lists.proofs.PartLaws.{part-end, grown-whole}
 use Rattle.cipher.specs.KeySize.{rounds, sizeOfKey}
-use Rattle.cipher.specs.Lea.{keyRows}
+use Rattle.cipher.specs.Schedules.{keyRows}
 use Rattle.cipher.specs.Coding.{FirstPermutations, LowSet, setOf, inverted, coded, decoded}
 use Rattle.cipher.specs.Tables.{tableRound, tableRounds}
 use Rattle.cipher.specs.Chain.{Chain, chainSet, roundCodings}
 use Rattle.cipher.specs.Book.{bookRound}
 use Rattle.cipher.specs.declared.size.KeySize.{KeySize}
+use Rattle.cipher.specs.declared.schedules.Schedule.the-variants.{Lea}
 use Rattle.cipher.proofs.KeySizeLaws.{size-of-key, rounds-le, rounds-more}
 use Rattle.cipher.proofs.InverseLaws.{length-inverted, decoded-inverted, low-inverted}
+use Rattle.cipher.proofs.SchedulesLaws.{numbered-0}
 use Rattle.cipher.proofs.BookLaw.{round-size}
 use Rattle.book.specs.Answers as book
 use Rattle.book.proofs.AnswerLaws.{built-done}
@@ -29,18 +31,18 @@ use Rattle.round.specs.Round.{Ready, tablesOf, laterRounds}
 module _ (z : KeySize) (key ch : List ℕ) (h : Ready z key ch) (l : ℕ) (b : l < rounds z) where
   tables-size : length (tablesOf z key ch l) ≡ 18432
   unfolding bookRound
-  tables-size = round-size (roundCodings (rounds z) ch l) (getD (keyRows z key) l [])
+  tables-size = round-size (roundCodings (rounds z) ch l) (getD (keyRows Lea z key) l [])
 
-  pub tables-built : (n : ℕ) (t u : List ℕ) → length t ≡ 18432 → (n, u) ≡ book.buildRoundAnswer key ch l t → u ≡ tablesOf z key ch l
+  pub tables-built : (n : ℕ) (t u : List ℕ) → length t ≡ 18432 → (n, u) ≡ book.buildRoundAnswer 0 key ch l t → u ≡ tablesOf z key ch l
   tables-built n t u e q =
       ap (λ (p : ℕ × List ℕ). p .1)
-      (q ∙ sym (built-done 0 3 key ch t (λ z. 18432) (λ z. bookRound (rounds z) (keyRows z key) ch (l % rounds z)) z
-      (ap sizeOfKey (h .0) ∙ size-of-key z) (h .1) (le-of-eq (sym e)) (bookRound (rounds z) (keyRows z key) ch (l % rounds z)) refl))
-      ∙ grown-whole (bookRound (rounds z) (keyRows z key) ch (l % rounds z)) t 18432 (le-of-eq e)
+      (q ∙ sym (built-done 0 3 0 key ch t (λ z. 18432) (λ k z. bookRound (rounds z) (keyRows k z key) ch (l % rounds z)) Lea z
+      (numbered-0 0 refl, ap sizeOfKey (h .0) ∙ size-of-key z) (h .1) (le-of-eq (sym e)) (bookRound (rounds z) (keyRows Lea z key) ch (l % rounds z)) refl))
+      ∙ grown-whole (bookRound (rounds z) (keyRows Lea z key) ch (l % rounds z)) t 18432 (le-of-eq e)
       ∙ ap (tablesOf z key ch) (mod-eq-of-lt b)
 
   pub round-run : (n m : ℕ) (t u x y : List ℕ) → length t ≡ 18432 → length x ≡ 16
-      → (n, u) ≡ book.buildRoundAnswer key ch l t → (m, y) ≡ driver.runRoundAnswer u x → y ≡ tableRound (tablesOf z key ch l) x
+      → (n, u) ≡ book.buildRoundAnswer 0 key ch l t → (m, y) ≡ driver.runRoundAnswer u x → y ≡ tableRound (tablesOf z key ch l) x
   round-run n m t u x y e f p q =
       let d = tables-built n t u e p in
       ap (λ (p : ℕ × List ℕ). p .1) (q ∙ tables-done u x (ap length d ∙ tables-size) f) ∙ ap (λ (t : List ℕ). tableRound t x) d

@@ -7,13 +7,14 @@ use native.Mathlib.Nat.{le-refl}
 use native.Mathlib.Omega.{arith}
 use lib.ListN.{getD, drop}
 use Rattle.cipher.specs.KeySize.{rounds, chainLength}
-use Rattle.cipher.specs.Lea.{keyRows}
+use Rattle.cipher.specs.Schedules.{keyRows}
 use Rattle.cipher.specs.Lea.{firstRounds, encipher}
 use Rattle.cipher.specs.Coding.{decoded}
 use Rattle.cipher.specs.Tables.{RoundTables}
 use Rattle.cipher.specs.Chain.{Chain, chainSet, roundCodings}
 use Rattle.cipher.specs.Book.{bookRound}
 use Rattle.cipher.specs.declared.size.KeySize.{KeySize}
+use Rattle.cipher.specs.declared.schedules.Schedule.the-variants.{Lea}
 use Rattle.cipher.proofs.KeySizeLaws.{rounds-more}
 use Rattle.cipher.proofs.RoundsLaw.{rounds-law}
 use Rattle.cipher.proofs.ChainTests.{valid-round}
@@ -23,20 +24,20 @@ use Rattle.round.specs.Round.{tablesOf, openedAfter, twoLines, lengthByt
 use Rattle.round.proofs.AnswerLaws.{printed-after, on-run}
 
 module _ (z : KeySize) (key ch : List ℕ) (v : Chain z ch) where
-  tables-are : (l : ℕ) → l < rounds z → RoundTables (roundCodings (rounds z) ch l) (getD (keyRows z key) l []) (tablesOf z key ch l)
+  tables-are : (l : ℕ) → l < rounds z → RoundTables (roundCodings (rounds z) ch l) (getD (keyRows Lea z key) l []) (tablesOf z key ch l)
   unfolding bookRound
-  tables-are l h = round-made (roundCodings (rounds z) ch l) (getD (keyRows z key) l [])
+  tables-are l h = round-made (roundCodings (rounds z) ch l) (getD (keyRows Lea z key) l [])
 
   -- after n rounds, for every n
-  pub opened-lea : (b : List ℕ) (n : ℕ) → n ≤ rounds z → openedAfter z key ch n b ≡ firstRounds (keyRows z key) n (decoded (chainSet ch 0) b)
+  pub opened-lea : (b : List ℕ) (n : ℕ) → n ≤ rounds z → openedAfter z key ch n b ≡ firstRounds (keyRows Lea z key) n (decoded (chainSet ch 0) b)
   opened-lea b n h =
-      rounds-law (rounds z) (chainSet ch) (roundCodings (rounds z) ch) (keyRows z key) (tablesOf z key ch)
+      rounds-law (rounds z) (chainSet ch) (roundCodings (rounds z) ch) (keyRows Lea z key) (tablesOf z key ch)
       (λ l. unfold roundCodings in refl) (λ l. unfold roundCodings in refl)
       (valid-round (rounds z) ch (v .codings) (v .words) (v .masks)) tables-are b n h (v .codings .sets n h)
 
   pub lines-lea : (b : List ℕ)
       → twoLines z key ch b
-      ≡ line 1 1 (firstRounds (keyRows z key) 1 (decoded (chainSet ch 0) b)) ++ line 2 (rounds z) (encipher z key (decoded (chainSet ch 0) b))
+      ≡ line 1 1 (firstRounds (keyRows Lea z key) 1 (decoded (chainSet ch 0) b)) ++ line 2 (rounds z) (encipher Lea z key (decoded (chainSet ch 0) b))
   unfolding twoLines
   lines-lea b =
       let m = rounds-more z in
@@ -45,8 +46,8 @@ module _ (z : KeySize) (key ch : List ℕ) (v : Chain z ch) where
 -- what is printed for an input that is not refused
 pub printed-lea : (z : KeySize) (i : List ℕ) → Input z i
     → printed i
-    ≡ line 1 1 (firstRounds (keyRows z (keyPart (lengthByte i) i)) 1 (plainBlock z i))
-    ++ line 2 (rounds z) (encipher z (keyPart (lengthByte i) i) (plainBlock z i))
+    ≡ line 1 1 (firstRounds (keyRows Lea z (keyPart (lengthByte i) i)) 1 (plainBlock z i))
+    ++ line 2 (rounds z) (encipher Lea z (keyPart (lengthByte i) i) (plainBlock z i))
 unfolding printedAfter
 printed-lea z i h =
     let key = keyPart (lengthByte i) i in

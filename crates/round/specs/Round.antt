@@ -9,13 +9,14 @@ use lib.ListN.{length, getD, take, drop}
 use Rattle.lists.specs.Blocks.{blockLength}
 use Rattle.lists.specs.Refusals.{first}
 use Rattle.cipher.specs.KeySize.{rounds, keyLength, chainLength, sizeOfKey}
-use Rattle.cipher.specs.Lea.{keyRows}
+use Rattle.cipher.specs.Schedules.{keyRows}
 use Rattle.cipher.specs.Coding.{decoded}
 use Rattle.cipher.specs.Tables.{tableRounds}
 use Rattle.cipher.specs.Chain.{Chain, chainSet, chainTests}
 use Rattle.cipher.specs.Book.{bookRound}
 use Rattle.cipher.specs.Answers.{keyLengthTests, keyLengthSize, blockTests}
 use Rattle.cipher.specs.declared.size.KeySize.{KeySize}
+use Rattle.cipher.specs.declared.schedules.Schedule.the-variants.{Lea}
 use Rattle.cipher.specs.declared.size.SizeFound.{SizeFound}
 use Rattle.cipher.specs.declared.size.SizeFound.the-variants.{Found, Unknown}
 use Rattle.round.specs.Text.{line, refusedText}
@@ -28,7 +29,7 @@ Ready z key ch = (length key ≡ keyLength z) × Chain z ch
 
 -- the tables of round l of the book that they make
 abbrev pub tablesOf : KeySize → List ℕ → List ℕ → ℕ → List ℕ
-tablesOf z key ch l = bookRound (rounds z) (keyRows z key) ch l
+tablesOf z key ch l = bookRound (rounds z) (keyRows Lea z key) ch l
 
 -- a block by the rounds 1 to n - 1, which come after round 0
 abbrev pub laterRounds : KeySize → List ℕ → List ℕ → ℕ → List ℕ → List ℕ

@@ -12,6 +12,7 @@ use book::build::build_round;
 use cipher::block::code_block;
 use cipher::invert::invert;
 use cipher::lengths;
+use cipher::schedules::LEA;
 use cipher::size::KeySize;
 use driver::run::run_round;
 
@@ -28,7 +29,7 @@ pub fn one_round(size: KeySize, key: &[u8], chain: &[u8], l: usize, x: [u8; 16])
     ensures { λ r. ⌜ r ≡ tableRound (tablesOf size (now (key .entry)) (now (chain .entry)) l) x ⌝ }
 {
     let mut tables = room();
-    build_round(key, chain, l, &mut tables);
+    build_round(LEA, key, chain, l, &mut tables);
     let done = run_round(&tables, &x);
     done.block
 }

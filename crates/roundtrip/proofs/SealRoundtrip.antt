@@ -32,7 +32,7 @@ use Rattle.claims.proofs.SealTheorem.{file-length, seal-built}
 use Rattle.roundtrip.specs.Roundtrips.{keyBook, over, codeCallTests, sealCallTests}
 use Rattle.roundtrip.specs.Steps.{next, written, sealedOpened, codedOpened}
 
-module _ (key ch bk held : List ℕ) (built : Built key ch bk held) (hk : Bytes key) (iv m co se out : List ℕ) (hm : Bytes m) where
+module _ (schedule : ℕ) (key ch bk held : List ℕ) (built : Built schedule key ch bk held) (hk : Bytes key) (iv m co se out : List ℕ) (hm : Bytes m) where
   abbrev u : List ℕ
   u = padSet ch
 
@@ -52,7 +52,7 @@ module _ (key ch bk held : List ℕ) (built : Built key ch bk held) (hk : Bytes 
   size = length (paddedForSealing m)
 
   valid : Chain (keySize key) ch
-  valid = built-chain key ch bk held built
+  valid = built-chain schedule key ch bk held built
 
   code-length : length (codeOf (padSet ch) m) ≡ length (paddedForSealing m)
   code-length = length-coded (setOf u) (pad-set key ch valid .codings) (paddedForSealing m) (length m / 16 + 1) (sealing-blocks m)
@@ -77,60 +77,60 @@ module _ (key ch bk held : List ℕ) (built : Built key ch bk held) (hk : Bytes 
     left q = w ((q, 0), (co, (se, out)))
 
     abbrev onward : (ℕ × ℕ) × List ℕ → B
-    onward a = w (written a (se, out) (λ c. sealedOpened key (archiveSet key ch) (bookIn key held) iv c se out))
+    onward a = w (written a (se, out) (λ c. sealedOpened schedule key (archiveSet key ch) (bookIn key held) iv c se out))
 
     abbrev codedFile : List ℕ → B
     codedFile b = first (codeCallTests m (length (paddedForSealing m)) co) left (sealedFile b overCode)
 
   -- where the message is not too long and the IV is a block
   module _ (most : length m ≤ 1048575) (li : length iv ≡ 16) where
-    way : SealedWay key (padSet ch) (archiveSet key ch) (bookIn key held) iv m
-    way = seal-built key ch bk held built hk m iv hm most li
+    way : SealedWay schedule key (padSet ch) (archiveSet key ch) (bookIn key held) iv m
+    way = seal-built schedule key ch bk held built hk m iv hm most li
 
     long : length (fileOf (padSet ch) (bookIn key held) iv m) ≡ length (paddedForSealing m)
-    long = file-length key ch bk held built hk m iv hm most li
+    long = file-length schedule key ch bk held built hk m iv hm most li
 
-    opens : {B : Type 0} (w : (ℕ × ℕ) × List ℕ → B) → w (openAnswer key (archiveSet key ch) iv (fileOf (padSet ch) (bookIn key held) iv m) out) ≡ opened w
+    opens : {B : Type 0} (w : (ℕ × ℕ) × List ℕ → B) → w (openAnswer schedule key (archiveSet key ch) iv (fileOf (padSet ch) (bookIn key held) iv m) out) ≡ opened w
     opens {B} w = go (decLt (length out) size)
       where
-        go : Dec (length out < length (paddedForSealing m)) → w (openAnswer key s iv file out) ≡ opened w
+        go : Dec (length out < length (paddedForSealing m)) → w (openAnswer schedule key s iv file out) ≡ opened w
         go (yes h) = ap w (way .opening .short out (omega (arith, long))) ∙ sym (room-refused size out (λ q. w ((q, 0), out)) (w ((0, length m), over m out)) h)
         go (no h) =
             ap w (way .opening .written out (omega (arith, long)))
             ∙ sym (room-taken size out (λ q. w ((q, 0), out)) (w ((0, length m), over m out)) (omega arith))
 
     files : {B : Type 0} (w : (ℕ × ℕ) × (List ℕ × List ℕ) → B)
-        → w (written (sealAnswer (bookIn key held) iv (codeOf (padSet ch) m) se) out (λ f. openAnswer key (archiveSet key ch) iv f out))
+        → w (written (sealAnswer (bookIn key held) iv (codeOf (padSet ch) m) se) out (λ f. openAnswer schedule key (archiveSet key ch) iv f out))
         ≡ first (roomTests (length (paddedForSealing m)) se) (λ q. w ((q, 0), (se, out))) (opened (overFile (bookIn key held) w))
     unfolding next
     files {B} w = go (decLt (length se) size)
       where
         go : Dec (length se < length (paddedForSealing m))
-            → w (written (sealAnswer book iv code se) out (λ f. openAnswer key s iv f out)) ≡ first (roomTests size se) (λ q. w ((q, 0), (se, out))) (opened (overFile book w))
+            → w (written (sealAnswer book iv code se) out (λ f. openAnswer schedule key s iv f out)) ≡ first (roomTests size se) (λ q. w ((q, 0), (se, out))) (opened (overFile book w))
         go (yes h) =
-            ap (λ (a : (ℕ × ℕ) × List ℕ). w (written a out (λ f. openAnswer key s iv f out))) (way .sealing .short se (omega (arith, long)))
+            ap (λ (a : (ℕ × ℕ) × List ℕ). w (written a out (λ f. openAnswer schedule key s iv f out))) (way .sealing .short se (omega (arith, long)))
             ∙ sym (room-refused size se (λ q. w ((q, 0), (se, out))) (opened (overFile book w)) h)
         go (no h) =
-            ap (λ (a : (ℕ × ℕ) × List ℕ). w (written a out (λ f. openAnswer key s iv f out))) (way .sealing .written se (omega (arith, long)))
-            ∙ ap (λ (f : List ℕ). overFile book w (openAnswer key s iv f out)) (take-at file (drop (length file) se) (length file) refl)
+            ap (λ (a : (ℕ × ℕ) × List ℕ). w (written a out (λ f. openAnswer schedule key s iv f out))) (way .sealing .written se (omega (arith, long)))
+            ∙ ap (λ (f : List ℕ). overFile book w (openAnswer schedule key s iv f out)) (take-at file (drop (length file) se) (length file) refl)
             ∙ opens (overFile book w)
             ∙ sym (room-taken size se (λ q. w ((q, 0), (se, out))) (opened (overFile book w)) (omega arith))
 
   module _ {B : Type 0} where
     seals : length m ≤ 1048575 → (w : (ℕ × ℕ) × (List ℕ × List ℕ) → B)
-        → w (sealedOpened key (archiveSet key ch) (bookIn key held) iv (codeOf (padSet ch) m) se out) ≡ sealedFile (bookIn key held) w
+        → w (sealedOpened schedule key (archiveSet key ch) (bookIn key held) iv (codeOf (padSet ch) m) se out) ≡ sealedFile (bookIn key held) w
     unfolding sealedOpened next
     seals most w = go (ℕ-discrete (length iv) 16)
       where
-        go : Dec (length iv ≡ 16) → w (written (sealAnswer book iv code se) out (λ f. openAnswer key s iv f out)) ≡ sealedFile book w
+        go : Dec (length iv ≡ 16) → w (written (sealAnswer book iv code se) out (λ f. openAnswer schedule key s iv f out)) ≡ sealedFile book w
         go (yes d) = files most d w ∙ sym (block-taken iv (roomTests size se) (λ q. w ((q, 0), (se, out))) (opened (overFile book w)) d)
         go (no d) =
-            ap (λ (a : (ℕ × ℕ) × List ℕ). w (written a out (λ f. openAnswer key s iv f out)))
-            (seal-7 book iv code se (keySize key) (built-found key ch bk held built) d)
+            ap (λ (a : (ℕ × ℕ) × List ℕ). w (written a out (λ f. openAnswer schedule key s iv f out)))
+            (seal-7 book iv code se (keySize key) (built-found schedule key ch bk held built) d)
             ∙ sym (block-refused iv (roomTests size se) (λ q. w ((q, 0), (se, out))) (opened (overFile book w)) d)
 
     codes : (w : (ℕ × ℕ) × (List ℕ × (List ℕ × List ℕ)) → B)
-        → w (codedOpened key (padSet ch) (archiveSet key ch) (bookIn key held) iv m co se out) ≡ codedFile w (bookIn key held)
+        → w (codedOpened schedule key (padSet ch) (archiveSet key ch) (bookIn key held) iv m co se out) ≡ codedFile w (bookIn key held)
     unfolding codedOpened next
     codes w = go (decLt 1048575 (length m)) (decLt (length co) size)
       where
@@ -144,13 +144,13 @@ module _ (key ch bk held : List ℕ) (built : Built key ch bk held) (hk : Bytes 
             ∙ room-refused size co (left w) (sealedFile book (overCode w)) b)
         go (no h) (no b) =
             ap (onward w) (sealing-coded u m co (pad-set key ch valid) (omega arith) (omega arith) ∙ ap (λ (k : ℕ). ((0, size), code ++ drop k co)) (sym code-length))
-            ∙ ap (λ (c : List ℕ). overCode w (sealedOpened key s book iv c se out)) (take-at code (drop (length code) co) size code-length)
+            ∙ ap (λ (c : List ℕ). overCode w (sealedOpened schedule key s book iv c se out)) (take-at code (drop (length code) co) size code-length)
             ∙ seals (omega arith) (overCode w)
             ∙ sym (first-pass (ltb 1048575 (length m)) 8 (roomTests size co) (left w) (sealedFile book (overCode w)) (le-ltb 1048575 (length m) (omega arith))
             ∙ room-taken size co (left w) (sealedFile book (overCode w)) (omega arith))
 
     -- the book is the key's and the chain's
     pub coded-opened : (w : (ℕ × ℕ) × (List ℕ × (List ℕ × List ℕ)) → B)
-        → w (codedOpened key (padSet ch) (archiveSet key ch) (bookIn key held) iv m co se out)
-        ≡ codedFile w (keyBook key ch)
-    coded-opened w = codes w ∙ ap (λ (b : List ℕ). codedFile w b) (built-is key ch bk held built)
+        → w (codedOpened schedule key (padSet ch) (archiveSet key ch) (bookIn key held) iv m co se out)
+        ≡ codedFile w (keyBook schedule key ch)
+    coded-opened w = codes w ∙ ap (λ (b : List ℕ). codedFile w b) (built-is schedule key ch bk held built)

@@ -130,9 +130,9 @@ module _ (u m co x : List ℕ) (r : TagCode) (e : (tagCodeTold r, x) ≡ tagAnsw
       let w : n ≡ length (paddedForTag m) = ap (λ (y : TagCode). (tagCodeTold y) .1 .0) (sym d) ∙ ap (λ (y : ℕ × ℕ). y .0) (t .1) in
       (omega (arith, t .0), omega (arith, tag-blocks m))
 
-  module _ (key s bk : List ℕ) where
+  module _ (schedule : ℕ) (key s bk : List ℕ) where
     abbrev verdict : (ℕ × (ℕ × ℕ)) × List ℕ → (ℕ × ℕ) × List ℕ
-    verdict a = (checkAnswer key s m (tagBy bk (take (a .0 .1 .0) (a .1)) (a .0 .1 .1)), a .1)
+    verdict a = (checkAnswer schedule key s m (tagBy bk (take (a .0 .1 .0) (a .1)) (a .0 .1 .1)), a .1)
 
     abbrev kept : ℕ → (ℕ × ℕ) × List ℕ
     kept q = ((q, 0), (tagAnswer u m co) .1)
@@ -140,23 +140,23 @@ module _ (u m co x : List ℕ) (r : TagCode) (e : (tagCodeTold r, x) ≡ tagAnsw
     number-is : (n : ℕ × (ℕ × ℕ)) → tagCodeTold r ≡ n → (tagAnswer u m co) .0 .0 ≡ n .0
     number-is n d = ap (λ (y : (ℕ × (ℕ × ℕ)) × List ℕ). y .0 .0) (sym e) ∙ ap (λ (y : ℕ × (ℕ × ℕ)). y .0) d
 
-    pub tagged-refused : (q : Refusal) → r ≡ T.Refused q → ((numberOf q, 0), x) ≡ codedChecked key u s bk m co
+    pub tagged-refused : (q : Refusal) → r ≡ T.Refused q → ((numberOf q, 0), x) ≡ codedChecked schedule key u s bk m co
     unfolding codedChecked
     tagged-refused q d =
         ap (λ (y : (ℕ × (ℕ × ℕ)) × List ℕ). ((numberOf q, 0), y .1)) e
         ∙ sym (next-refused ((tagAnswer u m co) .0 .0) kept (verdict (tagAnswer u m co)) q (number-is (numberOf q, (0, 0)) (ap tagCodeTold d)))
 
-    pub tagged-done : (n k : ℕ) → r ≡ T.Coded n k → codedChecked key u s bk m co ≡ (checkAnswer key s m (tagBy bk (take (n - 0) x) k), x)
+    pub tagged-done : (n k : ℕ) → r ≡ T.Coded n k → codedChecked schedule key u s bk m co ≡ (checkAnswer schedule key s m (tagBy bk (take (n - 0) x) k), x)
     unfolding codedChecked
     tagged-done n k d =
         next-done ((tagAnswer u m co) .0 .0) kept (verdict (tagAnswer u m co)) (number-is (0, (n, k)) (ap tagCodeTold d))
         ∙ ap verdict (sym e)
         ∙ ap (λ (y : TagCode). verdict (tagCodeTold y, x)) d
-        ∙ ap (λ (j : ℕ). (checkAnswer key s m (tagBy bk (take j x) k), x)) (sym (sub-zero n))
+        ∙ ap (λ (j : ℕ). (checkAnswer schedule key s m (tagBy bk (take j x) k), x)) (sym (sub-zero n))
 
 -- ---- on a book that was built
 
-module _ (key ch bk held : List ℕ) (built : Built key ch bk held) (m co : List ℕ) (hm : Bytes m) where
+module _ (schedule : ℕ) (key ch bk held : List ℕ) (built : Built schedule key ch bk held) (m co : List ℕ) (hm : Bytes m) where
   abbrev u : List ℕ
   u = padSet ch
 
@@ -173,17 +173,17 @@ module _ (key ch bk held : List ℕ) (built : Built key ch bk held) (m co : List
   code = tagCodeOf (padSet ch) m
 
   valid : Chain (keySize key) ch
-  valid = built-chain key ch bk held built
+  valid = built-chain schedule key ch bk held built
 
   code-length : length (tagCodeOf (padSet ch) m) ≡ length (paddedForTag m)
   code-length = length-coded (setOf u) (pad-set key ch valid .codings) (paddedForTag m) ((length m - 1) / 16 + 1) (tag-blocks m)
 
   -- the tag of a message that is not refused is valid
-  checks : length m ≤ 1048575 → checkAnswer key (archiveSet key ch) m (tagBy (bookIn key held) (tagCodeOf (padSet ch) m) (kindOf (length m))) ≡ (0, 1)
+  checks : length m ≤ 1048575 → checkAnswer schedule key (archiveSet key ch) m (tagBy (bookIn key held) (tagCodeOf (padSet ch) m) (kindOf (length m))) ≡ (0, 1)
   unfolding messageCalls
   checks most =
-      let o = tag-built key ch bk held built m hm most (messageCalls (setOf u) m) (calls-accepted key ch bk held built m hm most) in
-      ap (checkAnswer key set-r m) (tag-one book (kindOf (length m)) code (o .theTag) (omega (arith, code-length, tag-blocks m)) (o .one))
+      let o = tag-built schedule key ch bk held built m hm most (messageCalls (setOf u) m) (calls-accepted schedule key ch bk held built m hm most) in
+      ap (checkAnswer schedule key set-r m) (tag-one book (kindOf (length m)) code (o .theTag) (omega (arith, code-length, tag-blocks m)) (o .one))
       ∙ o .valid
 
   -- what w makes of the answer of coding and what is after it
@@ -196,9 +196,9 @@ module _ (key ch bk held : List ℕ) (built : Built key ch bk held) (m co : List
 
     abbrev onward : (ℕ × (ℕ × ℕ)) × List ℕ → B
     onward a =
-        w (next (a .0 .0) (λ q. ((q, 0), a .1)) (checkAnswer key (archiveSet key ch) m (tagBy (bookIn key held) (take (a .0 .1 .0) (a .1)) (a .0 .1 .1)), a .1))
+        w (next (a .0 .0) (λ q. ((q, 0), a .1)) (checkAnswer schedule key (archiveSet key ch) m (tagBy (bookIn key held) (take (a .0 .1 .0) (a .1)) (a .0 .1 .1)), a .1))
 
-    pub coded-checked : w (codedChecked key (padSet ch) (archiveSet key ch) (bookIn key held) m co)
+    pub coded-checked : w (codedChecked schedule key (padSet ch) (archiveSet key ch) (bookIn key held) m co)
         ≡ first (codeCallTests m (length (paddedForTag m)) co) (λ q. w ((q, 0), co)) (w ((0, 1), over (tagCodeOf (padSet ch) m) co))
     unfolding codedChecked next
     coded-checked = go (decLt 1048575 (length m)) (decLt (length co) size)
@@ -213,6 +213,6 @@ module _ (key ch bk held : List ℕ) (built : Built key ch bk held) (m co : List
         go (no h) (no b) =
             ap onward (tag-coded u m co (pad-set key ch valid) (omega arith) (omega arith)
             ∙ ap (λ (k : ℕ). ((0, (size, kindOf (length m))), code ++ drop k co)) (sym code-length))
-            ∙ ap (λ (c : List ℕ). w (checkAnswer key set-r m (tagBy book c (kindOf (length m))), over code co)) (take-at code (drop (length code) co) size code-length)
+            ∙ ap (λ (c : List ℕ). w (checkAnswer schedule key set-r m (tagBy book c (kindOf (length m))), over code co)) (take-at code (drop (length code) co) size code-length)
             ∙ ap (λ (v : ℕ × ℕ). w (v, over code co)) (checks (omega arith))
             ∙ sym (first-pass (ltb 1048575 (length m)) 8 (roomTests size co) left done (le-ltb 1048575 (length m) (omega arith)) ∙ room-taken size co left done (omega arith))

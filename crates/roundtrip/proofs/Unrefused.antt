@@ -22,28 +22,28 @@ passed {B} ts left go n h =
     let p = not-refused (λ (y : (ℕ × ℕ) × B). y .0 .0) (λ q. ((q, 0), left)) (λ q. refl) go ts n h in
     (p .1, ap (λ (y : (ℕ × ℕ) × B). y .0 .0) (sym (p .1)) ∙ h)
 
-module _ (key ch m bk co : List ℕ) where
-  pub tag-valid : (tagRoundtrip key ch m bk co) .0 .0 ≡ 0 → tagRoundtrip key ch m bk co ≡ ((0, 1), (over (keyBook key ch) bk, over (tagCodeOf (padSet ch) m) co))
+module _ (schedule : ℕ) (key ch m bk co : List ℕ) where
+  pub tag-valid : (tagRoundtrip schedule key ch m bk co) .0 .0 ≡ 0 → tagRoundtrip schedule key ch m bk co ≡ ((0, 1), (over (keyBook schedule key ch) bk, over (tagCodeOf (padSet ch) m) co))
   unfolding tagRoundtrip
   tag-valid h =
-      let p = passed (buildCallTests key ch bk) (bk, co) (first (codeCallTests m (length (paddedForTag m)) co) (λ q. ((q, 0), (over (keyBook key ch) bk, co)))
-      ((0, 1), (over (keyBook key ch) bk, over (tagCodeOf (padSet ch) m) co))) (build-numbered key ch bk) h in
-      let c = passed (codeCallTests m (length (paddedForTag m)) co) (over (keyBook key ch) bk, co) ((0, 1), (over (keyBook key ch) bk, over (tagCodeOf (padSet ch) m) co))
+      let p = passed (buildCallTests schedule key ch bk) (bk, co) (first (codeCallTests m (length (paddedForTag m)) co) (λ q. ((q, 0), (over (keyBook schedule key ch) bk, co)))
+      ((0, 1), (over (keyBook schedule key ch) bk, over (tagCodeOf (padSet ch) m) co))) (build-numbered schedule key ch bk) h in
+      let c = passed (codeCallTests m (length (paddedForTag m)) co) (over (keyBook schedule key ch) bk, co) ((0, 1), (over (keyBook schedule key ch) bk, over (tagCodeOf (padSet ch) m) co))
       (lit< tt, (lit< tt, tt)) (p .1) in
       p .0 ∙ c .0
 
-module _ (key ch iv m bk co se out : List ℕ) where
+module _ (schedule : ℕ) (key ch iv m bk co se out : List ℕ) where
   abbrev size : ℕ
   size = length (paddedForSealing m)
 
   abbrev book : List ℕ
-  book = over (keyBook key ch) bk
+  book = over (keyBook schedule key ch) bk
 
   abbrev code : List ℕ
   code = over (codeOf (padSet ch) m) co
 
   abbrev file : List ℕ
-  file = over (fileOf (padSet ch) (keyBook key ch) iv m) se
+  file = over (fileOf (padSet ch) (keyBook schedule key ch) iv m) se
 
   abbrev back : (ℕ × ℕ) × (List ℕ × List ℕ × List ℕ × List ℕ)
   back = ((0, length m), (book, code, file, over m out))
@@ -57,11 +57,11 @@ module _ (key ch iv m bk co se out : List ℕ) where
   abbrev coded : (ℕ × ℕ) × (List ℕ × List ℕ × List ℕ × List ℕ)
   coded = first (codeCallTests m size co) (λ q. ((q, 0), (book, co, se, out))) sealed
 
-  pub message-back : (sealRoundtrip key ch iv m bk co se out) .0 .0 ≡ 0 → sealRoundtrip key ch iv m bk co se out
-      ≡ ((0, length m), (over (keyBook key ch) bk, over (codeOf (padSet ch) m) co, over (fileOf (padSet ch) (keyBook key ch) iv m) se, over m out))
+  pub message-back : (sealRoundtrip schedule key ch iv m bk co se out) .0 .0 ≡ 0 → sealRoundtrip schedule key ch iv m bk co se out
+      ≡ ((0, length m), (over (keyBook schedule key ch) bk, over (codeOf (padSet ch) m) co, over (fileOf (padSet ch) (keyBook schedule key ch) iv m) se, over m out))
   unfolding sealRoundtrip
   message-back h =
-      let p = passed (buildCallTests key ch bk) (bk, co, se, out) coded (build-numbered key ch bk) h in
+      let p = passed (buildCallTests schedule key ch bk) (bk, co, se, out) coded (build-numbered schedule key ch bk) h in
       let c = passed (codeCallTests m size co) (book, co, se, out) sealed (lit< tt, (lit< tt, tt)) (p .1) in
       let s = passed (sealCallTests iv size se) (book, code, se, out) opened (lit< tt, (lit< tt, tt)) (c .1) in
       let o = passed (roomTests size out) (book, code, file, out) back (lit< tt, tt) (s .1) in

@@ -9,11 +9,11 @@ use Prim.Native.Nat.{ℕ}
 use lib.ListN.{length, drop}
 use Rattle.lists.specs.Refusals.{first}
 use Rattle.cipher.specs.KeySize.{bookLength}
-use Rattle.cipher.specs.Lea.{keyRows}
+use Rattle.cipher.specs.Schedules.{keyRows}
 use Rattle.cipher.specs.Coding.{setOf}
 use Rattle.cipher.specs.Chain.{chainTests}
 use Rattle.cipher.specs.Book.{wholeBook}
-use Rattle.cipher.specs.Answers.{keyTests, keySize, blockTests, roomTests}
+use Rattle.cipher.specs.Answers.{scheduleOf, keyTests, keySize, blockTests, roomTests}
 use Rattle.pad.specs.Padding.{paddedForSealing, paddedForTag, codedText}
 use Rattle.archive.specs.Archive.{messageTests}
 use Rattle.claims.specs.Built.{padSet}
@@ -21,9 +21,9 @@ use Rattle.claims.specs.Sealing.{codeOf, fileOf}
 
 -- ---- what is written
 
--- the book of a key and a chain
-abbrev pub keyBook : List ℕ → List ℕ → List ℕ
-keyBook key ch = wholeBook (keySize key) (keyRows (keySize key) key) ch
+-- the book of a key and a chain, by the schedule told
+abbrev pub keyBook : ℕ → List ℕ → List ℕ → List ℕ
+keyBook schedule key ch = wholeBook (keySize key) (keyRows (scheduleOf schedule) (keySize key) key) ch
 
 -- a message coded for a tag under the set u
 abbrev pub tagCodeOf : List ℕ → List ℕ → List ℕ
@@ -35,9 +35,9 @@ over x buffer = x ++ drop (length x) buffer
 
 -- ---- what each call on a round trip can refuse
 
--- building: 1 of the key, 2 to 5 of the chain, 9 of a buffer shorter than the book
-abbrev pub buildCallTests : List ℕ → List ℕ → List ℕ → List (Bool × ℕ)
-buildCallTests key ch bk = keyTests key ++ (chainTests (keySize key) ch ++ roomTests (bookLength (keySize key)) bk)
+-- building: 34 of the schedule, 1 of the key, 2 to 5 of the chain, 9 of a buffer shorter than the book
+abbrev pub buildCallTests : ℕ → List ℕ → List ℕ → List ℕ → List (Bool × ℕ)
+buildCallTests schedule key ch bk = keyTests schedule key ++ (chainTests (keySize key) ch ++ roomTests (bookLength (keySize key)) bk)
 
 -- coding a message as n bytes: 8 of the message, 9 of the buffer
 abbrev pub codeCallTests : List ℕ → ℕ → List ℕ → List (Bool × ℕ)
@@ -50,21 +50,21 @@ sealCallTests iv n se = blockTests iv ++ roomTests n se
 -- ---- the answers: a number, what is told, and what the buffers hold
 
 -- tagged and checked, with buffers for book and code: the verdict is Valid (1). No call after coding refuses
-unfoldable pub tagRoundtrip : List ℕ → List ℕ → List ℕ → List ℕ → List ℕ → (ℕ × ℕ) × (List ℕ × List ℕ)
-tagRoundtrip key ch m bk co =
-    first (buildCallTests key ch bk) (λ q. ((q, 0), (bk, co)))
-    (first (codeCallTests m (length (paddedForTag m)) co) (λ q. ((q, 0), (over (keyBook key ch) bk, co)))
-    ((0, 1), (over (keyBook key ch) bk, over (tagCodeOf (padSet ch) m) co)))
+unfoldable pub tagRoundtrip : ℕ → List ℕ → List ℕ → List ℕ → List ℕ → List ℕ → (ℕ × ℕ) × (List ℕ × List ℕ)
+tagRoundtrip schedule key ch m bk co =
+    first (buildCallTests schedule key ch bk) (λ q. ((q, 0), (bk, co)))
+    (first (codeCallTests m (length (paddedForTag m)) co) (λ q. ((q, 0), (over (keyBook schedule key ch) bk, co)))
+    ((0, 1), (over (keyBook schedule key ch) bk, over (tagCodeOf (padSet ch) m) co)))
 
 -- sealed and opened, with buffers for book, code, sealed file and message: the message is back, and its length is told. Opening
 -- refuses nothing but 9, of the last buffer
-unfoldable pub sealRoundtrip : List ℕ → List ℕ → List ℕ → List ℕ → List ℕ → List ℕ → List ℕ → List ℕ → (ℕ × ℕ) × (List ℕ × List ℕ × List ℕ × List ℕ)
-sealRoundtrip key ch iv m bk co se out =
+unfoldable pub sealRoundtrip : ℕ → List ℕ → List ℕ → List ℕ → List ℕ → List ℕ → List ℕ → List ℕ → List ℕ → (ℕ × ℕ) × (List ℕ × List ℕ × List ℕ × List ℕ)
+sealRoundtrip schedule key ch iv m bk co se out =
     let n = length (paddedForSealing m) in
-    let book = over (keyBook key ch) bk in
+    let book = over (keyBook schedule key ch) bk in
     let code = over (codeOf (padSet ch) m) co in
-    let file = over (fileOf (padSet ch) (keyBook key ch) iv m) se in
-    first (buildCallTests key ch bk) (λ q. ((q, 0), (bk, co, se, out)))
+    let file = over (fileOf (padSet ch) (keyBook schedule key ch) iv m) se in
+    first (buildCallTests schedule key ch bk) (λ q. ((q, 0), (bk, co, se, out)))
     (first (codeCallTests m n co) (λ q. ((q, 0), (book, co, se, out)))
     (first (sealCallTests iv n se) (λ q. ((q, 0), (book, code, se, out)))
     (first (roomTests n out) (λ q. ((q, 0), (book, code, file, out)))

@@ -22,8 +22,8 @@ abbrev pub startTold : Started → ℕ × KeySize
 startTold (S.Built z) = (0, z)
 startTold (S.Refused q) = (numberOf q, Bytes16)
 
-unfoldable pub startAnswer : List ℕ → List ℕ → List ℕ → (ℕ × KeySize) × List ℕ
-startAnswer key ch bk = first (buildCallTests key ch bk) (λ q. ((q, Bytes16), bk)) ((0, keySize key), over (keyBook key ch) bk)
+unfoldable pub startAnswer : ℕ → List ℕ → List ℕ → List ℕ → (ℕ × KeySize) × List ℕ
+startAnswer schedule key ch bk = first (buildCallTests schedule key ch bk) (λ q. ((q, Bytes16), bk)) ((0, keySize key), over (keyBook schedule key ch) bk)
 
 -- after a call's number: its refusal, or what comes next
 unfoldable pub next : {A : Type 0} → ℕ → (ℕ → A) → A → A
@@ -37,11 +37,11 @@ written a left go =
     next (a .0 .0) (λ q. ((q, 0), (a .1, left))) ((go (take (a .0 .1) (a .1))) .0, (a .1, (go (take (a .0 .1) (a .1))) .1))
 
 -- a coded text c sealed and opened; a message coded, sealed and opened
-unfoldable pub sealedOpened : List ℕ → List ℕ → List ℕ → List ℕ → List ℕ → List ℕ → List ℕ → (ℕ × ℕ) × (List ℕ × List ℕ)
-sealedOpened key s bk iv c se out = written (sealAnswer bk iv c se) out (λ f. openAnswer key s iv f out)
+unfoldable pub sealedOpened : ℕ → List ℕ → List ℕ → List ℕ → List ℕ → List ℕ → List ℕ → List ℕ → (ℕ × ℕ) × (List ℕ × List ℕ)
+sealedOpened schedule key s bk iv c se out = written (sealAnswer bk iv c se) out (λ f. openAnswer schedule key s iv f out)
 
-unfoldable pub codedOpened : List ℕ → List ℕ → List ℕ → List ℕ → List ℕ → List ℕ → List ℕ → List ℕ → List ℕ → (ℕ × ℕ) × (List ℕ × (List ℕ × List ℕ))
-codedOpened key u s bk iv m co se out = written (sealingAnswer u m co) (se, out) (λ c. sealedOpened key s bk iv c se out)
+unfoldable pub codedOpened : ℕ → List ℕ → List ℕ → List ℕ → List ℕ → List ℕ → List ℕ → List ℕ → List ℕ → List ℕ → (ℕ × ℕ) × (List ℕ × (List ℕ × List ℕ))
+codedOpened schedule key u s bk iv m co se out = written (sealingAnswer u m co) (se, out) (λ c. sealedOpened schedule key s bk iv c se out)
 
 -- the session after the block calls with the first n blocks of a text, from a session s
 unfoldable pub afterBlocks : List ℕ → List ℕ → ℕ → Session → Session
@@ -57,7 +57,7 @@ unfoldable pub tagBy : List ℕ → List ℕ → ℕ → List ℕ
 tagBy bk c k = (lastAfter bk c k (length c / blockLength - 1) ((beginAnswer bk) .1)) .0 .1
 
 -- a message coded, tagged and checked
-unfoldable pub codedChecked : List ℕ → List ℕ → List ℕ → List ℕ → List ℕ → List ℕ → (ℕ × ℕ) × List ℕ
-codedChecked key u s bk m co =
+unfoldable pub codedChecked : ℕ → List ℕ → List ℕ → List ℕ → List ℕ → List ℕ → List ℕ → (ℕ × ℕ) × List ℕ
+codedChecked schedule key u s bk m co =
     let a = tagAnswer u m co in
-    next (a .0 .0) (λ q. ((q, 0), a .1)) (checkAnswer key s m (tagBy bk (take (a .0 .1 .0) (a .1)) (a .0 .1 .1)), a .1)
+    next (a .0 .0) (λ q. ((q, 0), a .1)) (checkAnswer schedule key s m (tagBy bk (take (a .0 .1 .0) (a .1)) (a .0 .1 .1)), a .1)

@@ -13,6 +13,7 @@ use pad::code::code_for_sealing;
 
 // A coded message sealed by the book, and the sealed file opened.
 fn seal_open(
+    schedule: u8,
     key: &[u8],
     set: &[u8],
     book: &[u8],
@@ -21,16 +22,17 @@ fn seal_open(
     sealed: &mut [u8],
     out: &mut [u8],
 ) -> Written
-    ensures { λ r. ⌜ (writtenOf r, (now (sealed .exit), now (out .exit))) ≡ sealedOpened (now (key .entry)) (now (set .entry)) (now (book .entry)) (now (iv .entry)) (now (coded .entry)) (now (sealed .entry)) (now (out .entry)) ⌝ }
+    ensures { λ r. ⌜ (writtenOf r, (now (sealed .exit), now (out .exit))) ≡ sealedOpened schedule (now (key .entry)) (now (set .entry)) (now (book .entry)) (now (iv .entry)) (now (coded .entry)) (now (sealed .entry)) (now (out .entry)) ⌝ }
 {
     match seal(book, iv, coded, sealed) {
         Written::Refused(why) => Written::Refused(why),
-        Written::Bytes(n) => open(key, set, iv, &sealed[0..n], out),
+        Written::Bytes(n) => open(schedule, key, set, iv, &sealed[0..n], out),
     }
 }
 
 // A message coded by the set u, sealed and opened.
 fn code_open(
+    schedule: u8,
     key: &[u8],
     u: &[u8],
     set: &[u8],
@@ -41,11 +43,11 @@ fn code_open(
     sealed: &mut [u8],
     out: &mut [u8],
 ) -> Written
-    ensures { λ r. ⌜ (writtenOf r, (now (coded .exit), (now (sealed .exit), now (out .exit)))) ≡ codedOpened (now (key .entry)) (now (u .entry)) (now (set .entry)) (now (book .entry)) (now (iv .entry)) (now (message .entry)) (now (coded .entry)) (now (sealed .entry)) (now (out .entry)) ⌝ }
+    ensures { λ r. ⌜ (writtenOf r, (now (coded .exit), (now (sealed .exit), now (out .exit)))) ≡ codedOpened schedule (now (key .entry)) (now (u .entry)) (now (set .entry)) (now (book .entry)) (now (iv .entry)) (now (message .entry)) (now (coded .entry)) (now (sealed .entry)) (now (out .entry)) ⌝ }
 {
     match code_for_sealing(u, message, coded) {
         Written::Refused(why) => Written::Refused(why),
-        Written::Bytes(n) => seal_open(key, set, book, iv, &coded[0..n], sealed, out),
+        Written::Bytes(n) => seal_open(schedule, key, set, book, iv, &coded[0..n], sealed, out),
     }
 }
 
@@ -53,6 +55,7 @@ fn code_open(
 // out. What is there is the message. The other buffers are scratch: a refusal of a later call leaves
 // in them what the calls before it wrote.
 pub fn seal_roundtrip(
+    schedule: u8,
     key: &[u8],
     chain: &[u8],
     iv: &[u8],
@@ -62,15 +65,16 @@ pub fn seal_roundtrip(
     sealed: &mut [u8],
     out: &mut [u8],
 ) -> Written
-    ensures { λ r. ⌜ (writtenOf r, (now (book .exit), now (coded .exit), now (sealed .exit), now (out .exit))) ≡ sealRoundtrip (now (key .entry)) (now (chain .entry)) (now (iv .entry)) (now (message .entry)) (now (book .entry)) (now (coded .entry)) (now (sealed .entry)) (now (out .entry)) ⌝ }
+    ensures { λ r. ⌜ (writtenOf r, (now (book .exit), now (coded .exit), now (sealed .exit), now (out .exit))) ≡ sealRoundtrip schedule (now (key .entry)) (now (chain .entry)) (now (iv .entry)) (now (message .entry)) (now (book .entry)) (now (coded .entry)) (now (sealed .entry)) (now (out .entry)) ⌝ }
 {
-    match start(key, chain, book) {
+    match start(schedule, key, chain, book) {
         Started::Refused(why) => Written::Refused(why),
         Started::Built(size) => {
             let u = &chain[0..lengths::SET];
             let last = lengths::SET * (size.rounds() + 1);
             let set = &chain[last..last + lengths::SET];
             code_open(
+                schedule,
                 key,
                 u,
                 set,

@@ -14,10 +14,10 @@ pub enum Started {
 }
 
 // The book into the front of its buffer, and the size of the key.
-pub fn start(key: &[u8], chain: &[u8], book: &mut [u8]) -> Started
-    ensures { λ r. ⌜ (startTold r, now (book .exit)) ≡ startAnswer (now (key .entry)) (now (chain .entry)) (now (book .entry)) ⌝ }
+pub fn start(schedule: u8, key: &[u8], chain: &[u8], book: &mut [u8]) -> Started
+    ensures { λ r. ⌜ (startTold r, now (book .exit)) ≡ startAnswer schedule (now (key .entry)) (now (chain .entry)) (now (book .entry)) ⌝ }
 {
-    if let Outcome::Refused(why) = build(key, chain, book) {
+    if let Outcome::Refused(why) = build(schedule, key, chain, book) {
         return Started::Refused(why);
     }
     let SizeFound::Found(size) = KeySize::of_key_len(key.len()) else {

@@ -52,6 +52,7 @@ fn tag_of(book: &[u8], coded: &[u8], kind: u8) -> [u8; 16]
 
 // A message coded by the set u, tagged and checked.
 fn code_check(
+    schedule: u8,
     key: &[u8],
     u: &[u8],
     set: &[u8],
@@ -59,13 +60,13 @@ fn code_check(
     message: &[u8],
     coded: &mut [u8],
 ) -> Checked
-    ensures { λ r. ⌜ (checkedTold r, now (coded .exit)) ≡ codedChecked (now (key .entry)) (now (u .entry)) (now (set .entry)) (now (book .entry)) (now (message .entry)) (now (coded .entry)) ⌝ }
+    ensures { λ r. ⌜ (checkedTold r, now (coded .exit)) ≡ codedChecked schedule (now (key .entry)) (now (u .entry)) (now (set .entry)) (now (book .entry)) (now (message .entry)) (now (coded .entry)) ⌝ }
 {
     match code_for_tag(u, message, coded) {
         TagCode::Refused(why) => Checked::Refused(why),
         TagCode::Coded(n, kind) => {
             let tag = tag_of(book, &coded[0..n], kind);
-            check(key, set, message, &tag)
+            check(schedule, key, set, message, &tag)
         }
     }
 }
@@ -73,21 +74,30 @@ fn code_check(
 // The round trip of a tag: a book is built, the message coded, its blocks given to a session, and the tag
 // checked. It is valid. The buffers are scratch: where coding refuses, the book stays in its own.
 pub fn tag_roundtrip(
+    schedule: u8,
     key: &[u8],
     chain: &[u8],
     message: &[u8],
     book: &mut [u8],
     coded: &mut [u8],
 ) -> Checked
-    ensures { λ r. ⌜ (checkedTold r, (now (book .exit), now (coded .exit))) ≡ tagRoundtrip (now (key .entry)) (now (chain .entry)) (now (message .entry)) (now (book .entry)) (now (coded .entry)) ⌝ }
+    ensures { λ r. ⌜ (checkedTold r, (now (book .exit), now (coded .exit))) ≡ tagRoundtrip schedule (now (key .entry)) (now (chain .entry)) (now (message .entry)) (now (book .entry)) (now (coded .entry)) ⌝ }
 {
-    match start(key, chain, book) {
+    match start(schedule, key, chain, book) {
         Started::Refused(why) => Checked::Refused(why),
         Started::Built(size) => {
             let u = &chain[0..lengths::SET];
             let last = lengths::SET * (size.rounds() + 1);
             let set = &chain[last..last + lengths::SET];
-            code_check(key, u, set, &book[0..size.book_len()], message, coded)
+            code_check(
+                schedule,
+                key,
+                u,
+                set,
+                &book[0..size.book_len()],
+                message,
+                coded,
+            )
         }
     }
 }

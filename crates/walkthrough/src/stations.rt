@@ -14,6 +14,7 @@ use cipher::invert::wide;
 use cipher::lengths;
 use cipher::refusal::Outcome;
 use cipher::refusal::Written;
+use cipher::schedules::LEA;
 use driver::lending::begin;
 use driver::lending::block_call;
 use driver::lending::last_call;
@@ -52,7 +53,7 @@ fn key_stated(book: &[u8]) {
 pub fn works(key: &[u8], chain: &[u8], book: &mut [u8]) {
     show(b"   in   key              ", key);
     show(b"   in   chain            ", chain);
-    if let Outcome::Refused(why) = build(key, chain, book) {
+    if let Outcome::Refused(why) = build(LEA, key, chain, book) {
         return refused(b"   out  book             ", why.number());
     }
     show(b"   out  book             ", book);
@@ -143,7 +144,7 @@ fn server(iv: &[u8], sealed: &[u8], tag: &[u8]) {
 fn judge(key: &[u8], set: &[u8], message: &[u8], tag: &[u8], ink: &[u8]) -> bool {
     show(b"   out  message          ", message);
     compare(message, ink);
-    match check(key, set, message, tag) {
+    match check(LEA, key, set, message, tag) {
         Checked::Valid => {
             say(b"   out  verdict          Valid\n");
             true
@@ -171,7 +172,7 @@ fn judge_front(key: &[u8], set: &[u8], text: &[u8], n: usize, tag: &[u8], ink: &
 // nothing is opened, there is nothing to check.
 fn archive_says(key: &[u8], set: &[u8], ink: &[u8], iv: &[u8], sealed: &[u8], tag: &[u8]) -> bool {
     let mut text = room();
-    match open(key, set, iv, sealed, &mut text) {
+    match open(LEA, key, set, iv, sealed, &mut text) {
         Written::Bytes(n) => judge_front(key, set, &text, n, tag, ink),
         Written::Refused(why) => {
             refused(b"   out  message          none: ", why.number());

@@ -6,7 +6,7 @@ use Rattle.bowlinette.proofs.bowlinette_build_round.Statement.{statemen
 use Rattle.bowlinette.proofs.bowlinette_build_round.Tie as tie
 
 returns : tie.Need-returns
-returns c = ap (λ (n : ℕ). (n, c .before .before .before .build-round .last .1 .1 .1 .0)) (c .number .ensures) ∙ c .before .before .before .build-round .ensures
+returns c = ap (λ (n : ℕ). (n, c .before .before .before .build-round .last .1 .1 .1 .1 .0)) (c .number .ensures) ∙ c .before .before .before .build-round .ensures
 
 pub bowlinette-build-round-spec : {M : Type 1} → statement M
 bowlinette-build-round-spec = tie.close (tie.spec (λ c κs. search needs) (λ c κs. search needs) (λ c. search needs) returns)

@@ -17,7 +17,7 @@ unfolding codedOpened
 returns c =
     let a = c .before .before .before .before .before .before .before .before .before .before .before .before .before .before .before .before .args in
     written-refused _ _ _ (c .before .before .before .before .before .code-for-sealing .ensures) (a .sealed .now, a .out .now)
-    (λ f. sealedOpened (a .key .now) (a .set .now) (a .book .now) (a .iv .now) f (a .sealed .now) (a .out .now)) _ (c .before .why .given .1)
+    (λ f. sealedOpened (a .schedule) (a .key .now) (a .set .now) (a .book .now) (a .iv .now) f (a .sealed .now) (a .out .now)) _ (c .before .why .given .1)
 
 returns-2 : tie.Need-returns-2
 unfolding codedOpened
@@ -27,7 +27,7 @@ returns-2 c =
     let a = s .before .before .before .before .before .before .before .before .before .before .before .args in
     ap (λ (y : (ℕ × ℕ) × (List ℕ × List ℕ)). (y .0, (s .code-for-sealing .last .1 .1 .0, y .1))) (c .before .before .before .before .seal-open .ensures)
     ∙ sym (written-done _ _ _ (s .code-for-sealing .ensures) (a .sealed .now, a .out .now)
-    (λ f. sealedOpened (a .key .now) (a .set .now) (a .book .now) (a .iv .now) f (a .sealed .now) (a .out .now)) _ (n .n .given .1))
+    (λ f. sealedOpened (a .schedule) (a .key .now) (a .set .now) (a .book .now) (a .iv .now) f (a .sealed .now) (a .out .now)) _ (n .n .given .1))
 
 pub code-open-spec : {M : Type 1} → statement M
 code-open-spec = tie.close (tie.spec

@@ -18,7 +18,7 @@ unfolding sealedOpened
 returns c =
     let a = c .before .before .before .before .before .before .before .before .before .before .before .before .before .before .args in
     written-refused _ _ _ (c .before .before .before .before .before .seal .ensures) (a .out .now)
-    (λ f. openAnswer (a .key .now) (a .set .now) (a .iv .now) f (a .out .now)) _ (c .before .why .given .1)
+    (λ f. openAnswer (a .schedule) (a .key .now) (a .set .now) (a .iv .now) f (a .out .now)) _ (c .before .why .given .1)
 
 returns-2 : tie.Need-returns-2
 unfolding sealedOpened
@@ -32,7 +32,7 @@ returns-2 c =
       ),
     )) (c .before .before .«open» .ensures)
     ∙ sym (written-done _ _ _ (c .before .before .before .before .before .before .before .before .before .before .before .seal .ensures) (a .out .now)
-    (λ f. openAnswer (a .key .now) (a .set .now) (a .iv .now) f (a .out .now)) _ (c .before .before .before .before .before .before .before .n .given .1))
+    (λ f. openAnswer (a .schedule) (a .key .now) (a .set .now) (a .iv .now) f (a .out .now)) _ (c .before .before .before .before .before .before .before .n .given .1))
 
 pub seal-open-spec : {M : Type 1} → statement M
 seal-open-spec = tie.close (tie.spec

@@ -18,10 +18,10 @@ returns : tie.Need-returns
 unfolding sealRoundtrip
 returns c =
     let a = c .before .before .before .before .before .before .before .before .before .before .before .before .before .before .before .args in
-    way-refused _ _ _ _ _ (c .before .before .before .before .before .start .ensures) (λ b q. ((q, 0), (b, a .coded .now, a .sealed .now, a .out .now))) _ _ (c .before .why .given .1)
+    way-refused _ _ _ _ _ _ (c .before .before .before .before .before .start .ensures) (λ b q. ((q, 0), (b, a .coded .now, a .sealed .now, a .out .now))) _ _ (c .before .why .given .1)
 
 part-u-end : tie.Need-part-u-end
-part-u-end c = omega (arith, sets-fit _ _ _ _ _ (c .before .before .before .before .before .start .ensures) _ (c .before .size .given .1) _ refl)
+part-u-end c = omega (arith, sets-fit _ _ _ _ _ _ (c .before .before .before .before .before .start .ensures) _ (c .before .size .given .1) _ refl)
 
 add-last : tie.Need-add-last
 add-last c = omega (arith, c .rounds .ensures, rounds-le (c .before .before .before .size .given .0 .0))
@@ -33,12 +33,12 @@ add-set : tie.Need-add-set
 add-set c = omega (arith, c .rounds .ensures, rounds-le (c .before .before .before .size .given .0 .0))
 
 part-set-end : tie.Need-part-set-end
-part-set-end c = omega (arith, sets-fit _ _ _ _ _ (c .before .before .before .before .before .before .before .start .ensures) _ (c .before .before .before .size .given .1) _ (c .rounds .ensures))
+part-set-end c = omega (arith, sets-fit _ _ _ _ _ _ (c .before .before .before .before .before .before .before .start .ensures) _ (c .before .before .before .size .given .1) _ (c .rounds .ensures))
 
 part-code-open-end : tie.Need-part-code-open-end
 part-code-open-end c = omega (
   arith,
-  book-fits _ _ _ _ _ (c .before .before .before .before .before .before .before .before .before .before .start .ensures) _
+  book-fits _ _ _ _ _ _ (c .before .before .before .before .before .before .before .before .before .before .start .ensures) _
       (c .before .before .before .before .before .before .size .given .1) _ (c .before .book-len .ensures),
 )
 
@@ -49,18 +49,18 @@ returns-2 c =
     let a = k .before .before .before .before .before .before .before .before .before .before .before .before .before .before .before .args in
     let e = k .before .before .before .before .before .start .ensures in
     let d = k .before .size .given .1 in
-    let s = cut-set _ _ _ _ _ e _ d _ (c .before .before .before .before .before .before .before .before .before .before .before .before .before .before .rounds .ensures) in
-    let b = cut-book _ _ _ _ _ e _ d _ (c .before .before .before .before .before .before .before .before .before .before .before .before .book-len .ensures) in
+    let s = cut-set _ _ _ _ _ _ e _ d _ (c .before .before .before .before .before .before .before .before .before .before .before .before .before .before .rounds .ensures) in
+    let b = cut-book _ _ _ _ _ _ e _ d _ (c .before .before .before .before .before .before .before .before .before .before .before .before .book-len .ensures) in
     let w : (ℕ × ℕ) × (List ℕ × (List ℕ × List ℕ)) → (ℕ × ℕ) × (List ℕ × List ℕ × List ℕ × List ℕ) = λ o.
-    (o .0, (over (keyBook (a .key .now) (a .chain .now)) (a .book .now), o .1 .0, o .1 .1 .0, o .1 .1 .1)) in
+    (o .0, (over (keyBook (a .schedule) (a .key .now) (a .chain .now)) (a .book .now), o .1 .0, o .1 .1 .0, o .1 .1 .1)) in
     let o = c .before .before .before .before .before .before .code-open .ensures in
-    (λ i. ((o i) .0, (held-is _ _ _ _ _ e _ d i, (o i) .1 .0, (o i) .1 .1 .0, (o i) .1 .1 .1)))
-    ∙ (λ i. w (codedOpened (a .key .now) (take 512 (a .chain .now)) (s i) (b i) (a .iv .now) (a .message .now) (a .coded .now) (a .sealed .now) (a .out .now)))
-    ∙ coded-opened _ _ _ _ (way-built _ _ _ _ _ e _ d) (bytes-of (a .key .now) (λ j h. omega
+    (λ i. ((o i) .0, (held-is _ _ _ _ _ _ e _ d i, (o i) .1 .0, (o i) .1 .1 .0, (o i) .1 .1 .1)))
+    ∙ (λ i. w (codedOpened (a .schedule) (a .key .now) (take 512 (a .chain .now)) (s i) (b i) (a .iv .now) (a .message .now) (a .coded .now) (a .sealed .now) (a .out .now)))
+    ∙ coded-opened _ _ _ _ _ (way-built _ _ _ _ _ _ e _ d) (bytes-of (a .key .now) (λ j h. omega
     (arith, k .before .before .before .before .before .before .before .before .before .before .before .before .before .before .shared-slice-known .given j)))
     (a .iv .now) (a .message .now) (a .coded .now) (a .sealed .now) (a .out .now)
     (bytes-of (a .message .now) (λ j h. omega (arith, k .before .before .before .before .before .before .before .before .before .before .before .shared-slice-known4 .given j))) w
-    ∙ sym (way-done _ _ _ _ _ e _ d _ _)
+    ∙ sym (way-done _ _ _ _ _ _ e _ d _ _)
 
 pub seal-roundtrip-spec : {M : Type 1} → statement M
 seal-roundtrip-spec = tie.close (tie.spec

@@ -20,15 +20,15 @@ tag-of-requires c κs =
     omega (arith, r .1, length-take-le (n - 0) (c .before .before .before .before .before .before .before .code-for-tag .last .1 .1 .0) (omega (arith, r .0)))
 
 returns : tie.Need-returns
-returns c = tagged-refused _ _ _ _ _ (c .before .before .before .before .before .code-for-tag .ensures) _ _ _ _ (c .before .why .given .1)
+returns c = tagged-refused _ _ _ _ _ (c .before .before .before .before .before .code-for-tag .ensures) _ _ _ _ _ (c .before .why .given .1)
 
 returns-2 : tie.Need-returns-2
 returns-2 c =
     let a = c .before .before .before .before .before .before .before .before .before .before .before .before .before .before .before .before .before .before .args in
     let x = c .before .before .before .before .before .before .before .before .before .before .code-for-tag .last .1 .1 .0 in
     ap (λ (y : ℕ × ℕ). (y, x)) (c .check .ensures)
-    ∙ ap (λ (t : List ℕ). (checkAnswer (a .key .now) (a .set .now) (a .message .now) t, x)) (c .before .before .tag-of .ensures)
-    ∙ sym (tagged-done _ _ _ _ _ (c .before .before .before .before .before .before .before .before .before .before .code-for-tag .ensures) (a .key .now)
+    ∙ ap (λ (t : List ℕ). (checkAnswer (a .schedule) (a .key .now) (a .set .now) (a .message .now) t, x)) (c .before .before .tag-of .ensures)
+    ∙ sym (tagged-done _ _ _ _ _ (c .before .before .before .before .before .before .before .before .before .before .code-for-tag .ensures) (a .schedule) (a .key .now)
     (a .set .now) (a .book .now) _ _ (c .before .before .before .before .before .before .n .given .1))
 
 pub code-check-spec : {M : Type 1} → statement M

@@ -14,10 +14,10 @@ number-spec =
     tie.close
     (tie.spec (λ c. search needs) (λ c. search needs) (λ c. search needs) (λ c. search needs) (λ c. search needs) (λ c. search needs)
     (λ c. search needs) (λ c. search needs) (λ c. search needs) (λ c. search needs) (λ c. search needs) (λ c. search needs) (λ c. search needs)
-    (λ c. search needs) (λ c. search needs) (λ c. search needs) (λ c. search needs) (λ c. met (c .enum-told .given .1))
+    (λ c. search needs) (λ c. search needs) (λ c. search needs) (λ c. search needs) (λ c. search needs) (λ c. met (c .enum-told .given .1))
     (λ c. met (c .enum-told2 .given .1)) (λ c. met (c .enum-told3 .given .1)) (λ c. met (c .enum-told4 .given .1))
     (λ c. met (c .enum-told5 .given .1)) (λ c. met (c .enum-told6 .given .1)) (λ c. met (c .enum-told7 .given .1))
     (λ c. met (c .enum-told8 .given .1)) (λ c. met (c .enum-told9 .given .1)) (λ c. met (c .enum-told10 .given .1))
     (λ c. met (c .enum-told11 .given .1)) (λ c. met (c .enum-told12 .given .1)) (λ c. met (c .enum-told13 .given .1))
     (λ c. met (c .enum-told14 .given .1)) (λ c. met (c .enum-told15 .given .1)) (λ c. met (c .enum-told16 .given .1))
-    (λ c. met (c .enum-told17 .given .1)))
+    (λ c. met (c .enum-told17 .given .1)) (λ c. met (c .enum-told18 .given .1)))

@@ -1,11 +1,11 @@
--- `schedule::key_rows` meets its contract.
+-- `schedule::lea_rows` meets its contract.
 use mathlib.Core.Path.{sym, ap, _∙_}
 use borrow.Author.Needs.{needs}
 use Rattle.cipher.specs.KeySize.{keyLength}
 use Rattle.cipher.specs.Schedule as S
 use Rattle.cipher.specs.declared.size.KeySize.{KeySize}
-use Rattle.cipher.proofs.schedule.key_rows.Statement.{statement}
-use Rattle.cipher.proofs.schedule.key_rows.Tie as tie
+use Rattle.cipher.proofs.schedule.lea_rows.Statement.{statement}
+use Rattle.cipher.proofs.schedule.lea_rows.Tie as tie
 
 schedule16-requires : tie.Need-schedule16-requires
 schedule16-requires c κs = c .before .before .before .pre ∙ ap keyLength (c .enum-told .given .1)
@@ -34,5 +34,5 @@ returns-3 c =
     let a = c .before .before .before .before .args in
     c .schedule32 .ensures ∙ sym (ap (λ (z : KeySize). S.schedule z (a .key .now)) (c .before .enum-told3 .given .1))
 
-pub key-rows-spec : {M : Type 1} → statement M
-key-rows-spec = tie.close (tie.spec (λ c. search needs) schedule16-requires (λ c. search needs) schedule24-requires (λ c. search needs) schedule32-requires returns returns-2 returns-3)
+pub lea-rows-spec : {M : Type 1} → statement M
+lea-rows-spec = tie.close (tie.spec (λ c. search needs) schedule16-requires (λ c. search needs) schedule24-requires (λ c. search needs) schedule32-requires returns returns-2 returns-3)
