@@ -37,4 +37,4 @@ module _ (s : ℕ) (h : 1 < s) where
 
 pub schedules : ScheduleLaws
 unfolding scheduleOf keyRows
-schedules = record { lea = λ z key. refl; wf-lea = λ z key. refl; others = refused-34 }
+schedules = record { lea = λ z key. refl; wf-lea = λ z key. refl; others = λ s h. refused-34 s (omega arith) }
