@@ -49,15 +49,8 @@ fn decodings(set: &[u8], table: &mut [u8])
 
 // A sealed file opened under a key, with its set r and its IV: the message into the front of out.
 // The padding is judged before anything is written.
-pub fn open(
-    schedule: u8,
-    key: &[u8],
-    set: &[u8],
-    iv: &[u8],
-    sealed: &[u8],
-    out: &mut [u8],
-) -> Written
-    ensures { λ r. ⌜ (writtenOf r, now (out .exit)) ≡ R.openAnswer schedule (now (key .entry)) (now (set .entry)) (now (iv .entry)) (now (sealed .entry)) (now (out .entry)) ⌝ }
+pub fn open(schedule: u8, key: &[u8], set: &[u8], iv: &[u8], file: &[u8], out: &mut [u8]) -> Written
+    ensures { λ r. ⌜ (writtenOf r, now (out .exit)) ≡ R.openAnswer schedule (now (key .entry)) (now (set .entry)) (now (iv .entry)) (now (file .entry)) (now (out .entry)) ⌝ }
 {
     let ScheduleFound::Numbered(named) = Schedule::of_number(schedule) else {
         return Written::Refused(Refusal::ScheduleNumber);
@@ -71,7 +64,7 @@ pub fn open(
     if iv.len() != lengths::BLOCK {
         return Written::Refused(Refusal::BlockLength);
     }
-    let n = sealed.len();
+    let n = file.len();
     if bad_text(n) {
         return Written::Refused(Refusal::MessageLength);
     }
@@ -82,12 +75,12 @@ pub fn open(
     let mut table = [0u8; lengths::IMAGES];
     decodings(set, &mut table);
     let k = n / lengths::BLOCK - 1;
-    let last = open_block(rows, size, &table, iv, sealed, k);
+    let last = open_block(rows, size, &table, iv, file, k);
     let v = padding(last);
     if v == 0 {
         return Written::Refused(Refusal::BadPadding);
     }
-    open_blocks(rows, size, &table, iv, sealed, k, out);
+    open_blocks(rows, size, &table, iv, file, k, out);
     put_part(out, lengths::BLOCK * k, last, lengths::BLOCK - v);
     Written::Bytes(n - v)
 }

@@ -55,7 +55,7 @@ recorded-lent bk (last-call {b} {c} {m} {new} {k} {n} old e r) s f q =
     let x = last-left s n new old c (lastAnswer bk m k s) (h .1) d in
     then (ap (λ (a : Answer). (a, lastAnswer bk m k s .1)) (x .0)) (recorded-lent bk r (lastAnswer bk m k s .1) (h .0) (x .1))
 
--- for every key, chain and buffer with which a book is built, and every record before it is begun
+-- for every schedule, key, chain and buffer with which a book is built, and every record before it is begun
 pub record-built : (schedule : ℕ) (key ch out held : List ℕ) → Built schedule key ch out held → (b₀ b : List ℕ) (q : ℕ)
     → (q, b) ≡ into (recorded (beginAnswer (bookIn key held))) b₀ → RecordLikeModel schedule key ch (bookIn key held) q b
 unfolding beginAnswer

@@ -1,5 +1,6 @@
 // The C interface; include/bowlinette.h declares the same. Every function answers 0, or the number of
-// a refusal, in which case nothing behind a pointer has changed.
+// a refusal, in which case nothing behind a pointer has changed. Where there is a key, `schedule` in front of
+// it is 0 for LEA's own and 1 for WF-LEA's; any other number is refused before all else (34).
 ghost use mathlib.Core.Path.{_≡_};
 ghost use Rattle.cipher.specs.Answers.{blockTold, encipherAnswer, decipherAnswer, roundsAnswer, rowAnswer, setChecked, chainChecked};
 ghost use Rattle.cipher.specs.Refusal.{writtenOf};

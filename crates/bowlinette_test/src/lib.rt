@@ -1,5 +1,6 @@
 // What the tests and the bench call beside the C interface, as a library of its own; no product links
-// it. The two round trips have scratch buffers, in which a refusal leaves what was written before it.
+// it. The two round trips have scratch buffers, in which a refusal leaves what was written before it. Schedules
+// are numbered as in the C interface.
 ghost use mathlib.Core.Path.{_≡_};
 ghost use Rattle.bowlinette.specs.Into.{into, kept};
 ghost use Rattle.bowlinette_test.specs.CbcMac.{cbcMacAnswer};

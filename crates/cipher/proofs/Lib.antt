@@ -1,7 +1,4 @@
 pub mod KeySizeLaws
-pub mod TurnSums
-pub mod ScheduleLaws
-pub mod Schedule32
 pub mod SchedulesLaws
 pub mod LeaLaws
 pub mod CmacLaws

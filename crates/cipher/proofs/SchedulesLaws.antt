@@ -8,15 +8,16 @@ use borrow.Author.Tests.{eq-eqb, ne-eqb}
 use lib.Dec.{eqb}
 use Rattle.lists.specs.Blocks.{Bytes}
 use Rattle.words.specs.Rows.{RowsOfWords}
+use Rattle.lea_schedule.proofs.ScheduleLaws.{words-16, words-24, words-32}
 use Rattle.wf_lea.proofs.RowLaws.{rows-words}
 use Rattle.cipher.specs.KeySize.{rounds}
-use Rattle.cipher.specs.Schedules.{scheduleFound, keyRows}
+use Rattle.cipher.specs.Schedules.{scheduleFound, schedule, keyRows}
 use Rattle.cipher.specs.Answers.{scheduleOf}
 use Rattle.cipher.specs.declared.size.KeySize.{KeySize}
+use Rattle.cipher.specs.declared.size.KeySize.the-variants.{Bytes16, Bytes24, Bytes32}
 use Rattle.cipher.specs.declared.schedules.Schedule.{Schedule}
 use Rattle.cipher.specs.declared.schedules.Schedule.the-variants.{Lea, WfLea}
 use Rattle.cipher.specs.declared.schedules.ScheduleFound.the-variants.{Numbered, Unnumbered}
-use Rattle.cipher.proofs.ScheduleLaws.{lea-words}
 
 -- the three answers of a number, by the tests that the code makes
 module _ (n : ℕ) where
@@ -52,8 +53,20 @@ module _ (n : ℕ) where
       go false true e = (refl, cc)
       go false false e = let w : _≡_ {A = ℕ} 0 1 = cc in absurd (omega arith)
 
+-- the schedule of a number that is not refused
+pub number-known : (n : ℕ) → not (eqb n 0 || eqb n 1) ≡ false → scheduleFound n ≡ Numbered (scheduleOf n)
+unfolding scheduleFound scheduleOf
+number-known n = go (eqb n 0) (eqb n 1)
+  where
+    go : (a b : Bool) → not (a || b) ≡ false → cond a (Numbered Lea) (cond b (Numbered WfLea) Unnumbered) ≡ Numbered (cond a Lea WfLea)
+    go true b e = refl
+    go false true e = refl
+    go false false e = let w : _≡_ {A = ℕ} 0 1 = cc in absurd (omega arith)
+
 -- every round key is a word
 pub key-words : (k : Schedule) (z : KeySize) (key : List ℕ) → Bytes key → RowsOfWords (keyRows k z key)
-unfolding keyRows
-key-words Lea z key h = lea-words z key h
+unfolding keyRows schedule
+key-words Lea Bytes16 key h = words-16 key h
+key-words Lea Bytes24 key h = words-24 key h
+key-words Lea Bytes32 key h = words-32 key h
 key-words WfLea z key h = rows-words key (rounds z)

@@ -36,7 +36,7 @@ keyLengthTests n = (not (eqb n 16 || eqb n 24 || eqb n 32), 1) ∷ []
 abbrev pub scheduleTests : ℕ → List (Bool × ℕ)
 scheduleTests s = (not (eqb s 0 || eqb s 1), 34) ∷ []
 
--- what has a key is told the number of a schedule too
+-- the tests of schedule and key: 34, then 1
 abbrev pub keyTests : ℕ → List ℕ → List (Bool × ℕ)
 keyTests s key = scheduleTests s ++ keyLengthTests (length key)
 

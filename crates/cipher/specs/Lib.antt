@@ -1,7 +1,6 @@
 pub mod Lengths
 pub mod KeySize
 pub mod Refusal
-pub mod Schedule
 pub mod Schedules
 pub mod Lea
 pub mod Cmac

@@ -1,11 +1,10 @@
-// The shared cipher part: key sizes, refusals, the block cipher LEA, what CMAC takes from it, codings.
+// The shared cipher part: key sizes, refusals, LEA's rounds under the rows of either schedule, what CMAC takes from them, codings.
 // Pad, driver, archive and works stand above it and use what its contracts and laws say.
 
 pub mod lengths; // lengths.rt: the lengths that are the same for all key sizes
 pub mod size; // size.rt: the three key sizes and the lengths that go with them
 pub mod refusal; // refusal.rt: what an operation refuses, by number
 pub mod answer; // answer.rt: a block or a refusal as an answer
-pub mod schedule; // schedule.rt: round keys from a key by LEA's own schedule
 pub mod schedules; // schedules.rt: the two schedules, and the rows of a key
 pub mod round; // round.rt: a round of LEA, and the same undone
 pub mod rows; // rows.rt: blocks under the rows of a schedule

@@ -4,8 +4,10 @@ ghost use mathlib.Core.Path.{_≡_};
 ghost use lib.ListN.{length};
 ghost use Rattle.cipher.specs.KeySize.{keyLength};
 ghost use Rattle.cipher.specs.Schedules as S;
-use crate::schedule::lea_rows;
 use crate::size::KeySize;
+use lea_schedule::schedule::schedule16;
+use lea_schedule::schedule::schedule24;
+use lea_schedule::schedule::schedule32;
 use wf_lea::rows;
 
 // Their numbers.
@@ -39,7 +41,19 @@ impl Schedule {
     }
 }
 
-// The rows of a key of a size: whatever has a key takes its rows from here.
+// The rows of a key of a size, by LEA's own schedule.
+fn lea_rows(size: KeySize, key: &[u8]) -> [[u32; 6]; 32]
+    requires { ⌜ length (now key) ≡ keyLength size ⌝ }
+    ensures { λ r. ⌜ r ≡ S.schedule size (now (key .entry)) ⌝ }
+{
+    match size {
+        KeySize::Bytes16 => schedule16(key),
+        KeySize::Bytes24 => schedule24(key),
+        KeySize::Bytes32 => schedule32(key),
+    }
+}
+
+// The rows of a key of a size, by either: whatever has a key takes its rows from here.
 pub fn key_rows(schedule: Schedule, size: KeySize, key: &[u8]) -> [[u32; 6]; 32]
     requires { ⌜ length (now key) ≡ keyLength size ⌝ }
     ensures { λ r. ⌜ r ≡ S.keyRows schedule size (now (key .entry)) ⌝ }

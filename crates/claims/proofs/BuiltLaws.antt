@@ -10,7 +10,7 @@ use lib.ListN.{length, getD, take, drop}
 use lib.Seq.{take-at}
 use Rattle.lists.specs.Refusals.{first}
 use Rattle.lists.proofs.RefusalLaws.{Clear}
-use Rattle.cipher.specs.Schedules.{scheduleFound, Named, keyRows}
+use Rattle.cipher.specs.Schedules.{Named, keyRows}
 use Rattle.cipher.specs.KeySize.{rounds, bookLength, sizeBy, sizeOfKey}
 use Rattle.cipher.specs.Chain.{ChainBy, Chain, chainTestsBy}
 use Rattle.cipher.specs.Book.{bookOf, wholeBook, bookBody, Book}
@@ -26,8 +26,7 @@ use Rattle.driver.proofs.AdmitLaws.{book-admitted}
 use Rattle.book.specs.Answers.{buildTestsBy, builtInto}
 use Rattle.book.proofs.AnswerLaws.{built-done}
 use Rattle.cipher.specs.declared.schedules.Schedule.{Schedule}
-use Rattle.cipher.specs.declared.schedules.Schedule.the-variants.{Lea, WfLea}
-use Rattle.cipher.specs.declared.schedules.ScheduleFound.the-variants as S
+use Rattle.cipher.proofs.SchedulesLaws.{number-known}
 use Rattle.reading.specs.Chain.{ReadingChain}
 use Rattle.reading.specs.Book.{readingBookOf, readingBookLength, ReadingBook}
 use Rattle.reading.proofs.ReadingBookLaw.{reading-book-size, reading-book-made}
@@ -77,16 +76,6 @@ size-known n = go (eqb n 16) (eqb n 24) (eqb n 32)
     go false false true e = refl
     go false false false e = let w : _≡_ {A = ℕ} 0 1 = cc in absurd (omega arith)
 
--- the schedule of a number that is not refused
-schedule-known : (n : ℕ) → not (eqb n 0 || eqb n 1) ≡ false → scheduleFound n ≡ S.Numbered (scheduleOf n)
-unfolding scheduleFound scheduleOf
-schedule-known n = go (eqb n 0) (eqb n 1)
-  where
-    go : (a b : Bool) → not (a || b) ≡ false → cond a (S.Numbered Lea) (cond b (S.Numbered WfLea) S.Unnumbered) ≡ S.Numbered (cond a Lea WfLea)
-    go true b e = refl
-    go false true e = refl
-    go false false e = let w : _≡_ {A = ℕ} 0 1 = cc in absurd (omega arith)
-
 -- of anything that is built, with any word rule: the part that a key of a size and a chain make by a schedule, of a length that goes with
 -- the size
 module _ (from to schedule : ℕ) (key ch out held : List ℕ) (len : KeySize → ℕ) (part : Schedule → KeySize → List ℕ)
@@ -104,7 +93,7 @@ module _ (from to schedule : ℕ) (key ch out held : List ℕ) (len : KeySize �
       (p .0, ap (λ (r : ℕ × List ℕ). r .1) (sym (p .1) ∙ built))
 
   pub into-named : Named schedule key (scheduleOf schedule) (keySize key)
-  into-named = (schedule-known schedule (parts .0 .0), size-known (length key) (parts .0 .1 .0))
+  into-named = (number-known schedule (parts .0 .0), size-known (length key) (parts .0 .1 .0))
 
   pub into-chain : ChainBy from to (keySize key) ch
   into-chain = chain-tested (keySize key) ch (clear-front (chainTestsBy from to (keySize key) ch) (roomTests (len (keySize key)) out) (parts .0 .1 .1))
@@ -146,9 +135,6 @@ module _ (schedule : ℕ) (key ch out held : List ℕ) (built : Built schedule k
 module _ (schedule : ℕ) (key ch out held : List ℕ) (built : ReadingBuilt schedule key ch out held) where
   abbrev readingBookFor : Schedule → KeySize → List ℕ
   readingBookFor k z = readingBookOf (rounds z) (keyRows k z key) ch
-
-  pub reading-built-named : Named schedule key (scheduleOf schedule) (keySize key)
-  reading-built-named = into-named 3 0 schedule key ch out held readingBookLength readingBookFor built
 
   pub reading-built-chain : ReadingChain (keySize key) ch
   reading-built-chain = into-chain 3 0 schedule key ch out held readingBookLength readingBookFor built

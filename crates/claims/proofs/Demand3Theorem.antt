@@ -1,4 +1,4 @@
--- Demand 3 whole: it holds for every key, chain and buffer with which a book is built, and a book is built with every key of a known
+-- Demand 3 whole: it holds for every schedule, key, chain and buffer with which a book is built, and a book is built with every key of a known
 -- size, every valid chain and every buffer with room. (`PremisesMet`: the identity chain is one, and so is one of which no coding is the identity.)
 use mathlib.Core.List.{List, _++_}
 use Prim.Native.Nat.{ℕ}

@@ -1,5 +1,5 @@
 -- The premises of demand 3's theorems can be met: for each key size the identity chain is valid, and so is a chain of which no coding is
--- the identity; with either and every key of that size a book is built. And so can those of the review screen's (document 02, 2026-01),
+-- the identity; with either, by either schedule, and every key of that size a book is built. And so can those of the review screen's (document 02, 2026-01),
 -- by a reading chain of which no coding is the identity, and of the masks at half byte 0 (2026-06), by chains that differ there and
 -- nowhere else. So none of the theorems is empty.
 use mathlib.Core.Path.{_≡_, refl, sym, ap, _∙_}

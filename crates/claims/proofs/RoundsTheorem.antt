@@ -26,7 +26,7 @@ after-rounds z rows ch bk v h found b l n p q =
     let e = rounds-some bk n b z found l q in
     (ap (λ (r : ℕ × List ℕ). r .0) e, ap (λ (r : ℕ × List ℕ). decoded (chainSet ch n) (r .1)) e ∙ book-rounds z rows ch (bookBody bk) v h b n q)
 
--- for every key, chain and buffer with which a book is built
+-- for every schedule, key, chain and buffer with which a book is built
 pub after-rounds-built : (schedule : ℕ) (key ch out held : List ℕ) → Built schedule key ch out held
     → (b : List ℕ) → length b ≡ 16 → (n : ℕ) → 1 ≤ n → n ≤ keyRounds key → RoundsOfLea (keyRows (scheduleOf schedule) (keySize key) key) ch (bookIn key held) n b
 after-rounds-built schedule key ch out held h =

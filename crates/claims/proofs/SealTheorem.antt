@@ -33,7 +33,7 @@ use Rattle.claims.proofs.BuiltLaws.{built-named, built-chain, built-boo
 use Rattle.claims.proofs.LoneSets.{pad-set, archive-set, pad-coded, archive-decoded}
 use Rattle.claims.proofs.SealedText.{ends-padded, padding-off, length-file, enciphered-sealed, opened-sealed}
 
--- the three calls, for every key, chain and buffer with which a book is built
+-- the three calls, for every schedule, key, chain and buffer with which a book is built
 module _ (schedule : ℕ) (key ch out held : List ℕ) (built : Built schedule key ch out held) (hk : Bytes key) (m iv : List ℕ) (hm : Bytes m) (most : length m ≤ 1048575) (li : length iv ≡ 16) where
   abbrev u : List ℕ
   u = padSet ch

@@ -115,7 +115,7 @@ module _ (z : KeySize) (rows : List (List ℕ)) (ch bk : List ℕ) (v : Chain z 
   unfolding driverAnswers modelAnswers
   session cs = runs cs ((beginAnswer bk) .1) begun same-begun
 
--- for every key, chain and buffer with which a book is built
+-- for every schedule, key, chain and buffer with which a book is built
 pub session-built : (schedule : ℕ) (key ch out held : List ℕ) → Built schedule key ch out held → (cs : List Call)
     → driverAnswers (bookIn key held) cs ≡ modelAnswers (encipher (scheduleOf schedule) (keySize key) key) (messageSet ch) (chainSet ch (keyRounds key)) cs
 session-built schedule key ch out held b cs =

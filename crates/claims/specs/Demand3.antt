@@ -1,6 +1,6 @@
 -- Demand 3 whole (document 01, "The model session of demand 3"), for a key, a chain and the book bk that is built from them. LEA is the
--- rounds over the rows of the schedule told, the same for builder, model and archive (02, 2026-07). The pad gets the chain's message set U, the archive its set r; what the calls answer are the definitions that the contracts of
--- the running functions name.
+-- rounds over the rows of the schedule told, the same for builder, model and archive (02, 2026-07). The pad gets the chain's message set
+-- U, the archive its set r; what the calls answer are the definitions that the contracts of the running functions name.
 use mathlib.Core.Path.{_≡_}
 use mathlib.Core.List.{List}
 use Prim.Native.Nat.{ℕ, _≤_}

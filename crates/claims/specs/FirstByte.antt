@@ -25,7 +25,7 @@ use Rattle.claims.specs.Built.{Built, bookIn, keyRounds}
 
 -- ---- bare books
 
--- the bare book of a key and a chain ("Book")
+-- the bare book of a key, by a schedule, and a chain ("Book")
 abbrev pub bareBook : ℕ → List ℕ → List ℕ → List ℕ
 bareBook schedule key ch = bookOf (keyRounds key) (keyRows (scheduleOf schedule) (keySize key) key) ch
 
@@ -78,7 +78,7 @@ pub record LikeBare (bk bare : List ℕ) : Type 0 where
   pub answers : (cs : List Call) → driverAnswers bk cs ≡ bareAnswers bare cs
 
 pub record FirstByteLaws : Type 0 where
-  -- a book that is built has the key's length in front of the bare book of the same key and chain
+  -- a book that is built has the key's length in front of the bare book of the same schedule, key and chain
   pub built : (schedule : ℕ) (key ch out held : List ℕ) → Built schedule key ch out held → bookIn key held ≡ length key ∷ bareBook schedule key ch
   -- and tags and sealed files by it are what document 01 has of the bare one
   pub like-bare : (schedule : ℕ) (key ch out held : List ℕ) → Built schedule key ch out held → LikeBare (bookIn key held) (bareBook schedule key ch)

@@ -9,7 +9,7 @@ pub mod Identity
 pub mod Demand3
 pub mod Examples
 pub mod Order
-pub mod Schedules
 pub mod Ink
 pub mod TopMasks
 pub mod Works
+pub mod Schedules

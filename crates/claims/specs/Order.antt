@@ -32,7 +32,7 @@ fieldTests k kind n length out = kindTests k kind n ++ roomTests length out
 
 -- each operation, by the list of tests that the definition of its answer names
 pub record Order : Type 1 where
-  -- LEA: enciphering, deciphering and the first rounds; and the round keys
+  -- the block cipher, by either schedule: enciphering, deciphering and the first rounds; and the round keys
   pub on-block : (schedule : ℕ) (key b : List ℕ) → InOrder (keyBlockTests schedule key b)
   pub round-keys : (schedule : ℕ) (key : List ℕ) → InOrder (keyTests schedule key)
   -- the checks of a lone set, and of a chain for a key of n bytes

@@ -1,6 +1,6 @@
 -- What reading tables are for (document 02, 2026-01, its last sentence): the screen agrees with the archive. A reading book that is built
--- with the archive's schedule and key, from a reading chain whose set 0 is the archive's set, gives, decoded by the chain's U, the text that opening
--- has before it tests the padding.
+-- with the archive's schedule and key, from a reading chain whose set 0 is the archive's set, gives, decoded by the chain's U, the text
+-- that opening has before it tests the padding.
 use mathlib.Core.Bool.{false}
 use mathlib.Core.Path.{_≡_}
 use mathlib.Core.List.{List, map}
@@ -53,7 +53,7 @@ abbrev pub Shows : ℕ → List ℕ → List ℕ → List ℕ → Type 0
 Shows schedule key ch bk = (iv sealed : List ℕ) → length iv ≡ blockLength → badText (length sealed) ≡ false → LikeOpened schedule key ch (firstSet ch) bk iv sealed
 
 -- the way of a sealed file to the screen: what the driver seals of the pad's coding of a message m, by the book bk of the chain ch, read by
--- the reading book rbk of the same key and the reading chain rch, and opened by the U of rch, is the padded message
+-- the reading book rbk of the same schedule and key and the reading chain rch, and opened by the U of rch, is the padded message
 pub record Reviewed (key ch rch bk rbk iv m : List ℕ) : Type 0 where
   pub reading : Writes (readAnswer rbk iv (fileOf (padSet ch) bk iv m)) (length (fileOf (padSet ch) bk iv m)) (shownOf key rbk iv (fileOf (padSet ch) bk iv m))
   pub shown : textOpened (messageSet rch) (shownOf key rbk iv (fileOf (padSet ch) bk iv m)) ≡ paddedForSealing m

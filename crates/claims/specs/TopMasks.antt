@@ -89,7 +89,7 @@ pub record TopMaskLaws : Type 0 where
   -- the answers, for books of any bytes that differ so
   pub same : (bk bk' : List ℕ) → ButTops TopEntry bk bk' → SameAnswers bk bk'
   pub same-read : (bk bk' : List ℕ) → ButTops TopReadingEntry bk bk' → SameRead bk bk'
-  -- so sealed files, tags and what is read are the same by whatever is built of one key and two such chains
+  -- so sealed files, tags and what is read are the same by whatever is built by one schedule of one key and two such chains
   pub built : (schedule : ℕ) (key ch ch' out out' held held' : List ℕ) → ButTopMasks (keyRounds key) ch ch' → Built schedule key ch out held → Built schedule key ch' out' held'
       → SameAnswers (bookIn key held) (bookIn key held')
   pub reading-built : (schedule : ℕ) (key ch ch' out out' held held' : List ℕ) → ButTopMasks (keyRounds key) ch ch' → ReadingBuilt schedule key ch out held → ReadingBuilt schedule key ch' out' held'

@@ -5,8 +5,9 @@ use mathlib.Core.List.{List, _++_}
 use Prim.Native.Nat.{ℕ}
 use Rattle.lists.specs.Tabulation.{chunks}
 use Rattle.words.specs.Word.{add, xor, turnLeft, turnRight, word, bytesOf, wordAt, words4, bytes}
-use Rattle.cipher.specs.Schedule.{mixed, mixedFour, row16, stepped, rowsOf, schedule}
-use Rattle.cipher.specs.Schedules.{keyRows}
+use Rattle.words.specs.Rows.{firstRows}
+use Rattle.lea_schedule.specs.Schedule.{mixed, mixedFour, row16, stepped}
+use Rattle.cipher.specs.Schedules.{schedule, keyRows}
 use Rattle.cipher.specs.Lea.{keyed, round, forward, firstRounds, encipher}
 use Rattle.cipher.specs.declared.size.KeySize.the-variants.{Bytes16}
 use Rattle.cipher.specs.declared.schedules.Schedule.the-variants.{Lea}
@@ -18,7 +19,7 @@ use Rattle.round.specs.Example.{firstLine, lastLine, refusedSeven, refus
 use Rattle.round.proofs.RoundMeaning.{printed-lea}
 
 first-line : line 1 1 (firstRounds (keyRows Lea Bytes16 key16) 1 plain16) ≡ firstLine
-unfolding add xor turnLeft turnRight word bytesOf wordAt mixed words4 mixedFour row16 stepped rowsOf schedule keyRows keyed round forward bytes firstRounds hexOf line chunks
+unfolding add xor turnLeft turnRight word bytesOf wordAt mixed words4 mixedFour row16 stepped firstRows schedule keyRows keyed round forward bytes firstRounds hexOf line chunks
 first-line = refl
 
 last-line : line 2 24 cipher16 ≡ lastLine

@@ -27,7 +27,7 @@ use Rattle.round.specs.Text.{line, refusedText}
 abbrev pub Ready : KeySize → List ℕ → List ℕ → Type 0
 Ready z key ch = (length key ≡ keyLength z) × Chain z ch
 
--- the tables of round l of the book that they make
+-- the tables of round l of the book that they make by LEA's own schedule, which this program stays with (02, 2026-07)
 abbrev pub tablesOf : KeySize → List ℕ → List ℕ → ℕ → List ℕ
 tablesOf z key ch l = bookRound (rounds z) (keyRows Lea z key) ch l
 

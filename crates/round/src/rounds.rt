@@ -23,7 +23,7 @@ fn room() -> [u8; lengths::ROUND_TABLES]
     [0u8; lengths::ROUND_TABLES]
 }
 
-// A block by the tables of round l, which are built for it.
+// A block by the tables of round l, which are built for it, by LEA's own schedule.
 pub fn one_round(size: KeySize, key: &[u8], chain: &[u8], l: usize, x: [u8; 16]) -> [u8; 16]
     requires { ⌜ Ready size (now key) (now chain) × (l < S.rounds size) ⌝ }
     ensures { λ r. ⌜ r ≡ tableRound (tablesOf size (now (key .entry)) (now (chain .entry)) l) x ⌝ }

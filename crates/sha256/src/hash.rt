@@ -118,7 +118,8 @@ fn round(k: u32, w: u32, s: [u32; 8]) -> [u32; 8]
     ]
 }
 
-// All rounds. The constants are copied once: indexed in the loop they would be laid out in each turn.
+// All rounds, four in a turn, which is quicker than one (docs/SPEED.md). The constants are copied once: indexed
+// in the loop they would be laid out in each turn.
 fn rounds(w: [u32; 64], h: [u32; 8]) -> [u32; 8]
     ensures { λ r. ⌜ r ≡ S.rounds w 64 h ⌝ }
 {

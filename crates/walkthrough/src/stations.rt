@@ -1,4 +1,4 @@
-// What each station does with an ink file, and prints of it.
+// What each station does with an ink file, and prints of it. Round keys are by LEA's own schedule.
 ghost use mathlib.Core.Path.{_≡_};
 ghost use lib.ListN.{length};
 use crate::compare::compare;

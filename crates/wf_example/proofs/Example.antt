@@ -4,7 +4,8 @@ use Rattle.lists.specs.Tabulation.{tab, chunks}
 use Rattle.words.specs.Word.{add, xor, turnLeft, turnRight, word, bytesOf, wordAt, words4, bytes}
 use Rattle.sha256.specs.Sha256.{ch, maj, turned, shifted, bigEndian, padded, bigWordAt, block, scheduleWord, nextWord, messageSchedule}
 use Rattle.sha256.specs.Sha256 as S
-use Rattle.wf_lea.specs.WfLea.{firstSix, row, firstRows, rows}
+use Rattle.words.specs.Rows.{firstRows}
+use Rattle.wf_lea.specs.WfLea.{firstSix, row, rows}
 use Rattle.cipher.specs.Schedules.{keyRows}
 use Rattle.cipher.specs.Lea.{keyed, round, forward, firstRounds}
 use Rattle.wf_example.specs.WfExample.{WfExample}

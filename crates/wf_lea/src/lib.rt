@@ -1,5 +1,5 @@
-// WF-LEA's key schedule (document 000, chapter 2, section 3): row l is the first six words of SHA-256 of the key
-// followed by the byte l + 1.
+// WF-LEA's key schedule (document 000, chapter 2, section 3): each row is cut from one digest, of the key and one
+// byte more, which is the number of the row counted from 1.
 ghost use mathlib.Core.Path.{_≡_};
 ghost use Prim.Native.Nat.{_≤_};
 ghost use lib.ListN.{length};

@@ -6,7 +6,8 @@ use native.Mathlib.Omega.{arith}
 use lib.ListN.{length, take, length-set}
 use lib.Seq.{take-set-le}
 use borrow.Author.Needs.{needs}
-use Rattle.wf_lea.specs.WfLea.{firstRows, rows}
+use Rattle.words.specs.Rows.{firstRows}
+use Rattle.wf_lea.specs.WfLea.{rows}
 use Rattle.wf_lea.proofs.MessageLaws.{key-front, message-is, message-room, message-fits}
 use Rattle.wf_lea.proofs.RowLaws.{row-stored}
 use Rattle.wf_lea.proofs.rows.Statement.{statement}

@@ -37,17 +37,17 @@ set-is : (c : tie.Else1) → LoneSet (given c .args .set .now)
 set-is c = set-done _ _ (c .before .before .before .check-set .ensures) (c .before .enum-told3 .given .1)
 
 -- the IV and the sealed text are bytes
-texts : (c : tie.Else1) → Bytes (given c .args .iv .now) × Bytes (given c .args .sealed .now)
+texts : (c : tie.Else1) → Bytes (given c .args .iv .now) × Bytes (given c .args .file .now)
 texts c =
     let q = c .before .before .before .before .before .before .before .before .before .before .before .before .before in
     let a = given c .args in (
       bytes-of (a .iv .now) (λ j h. omega (arith, q .before .shared-slice-known3 .given j)),
-      bytes-of (a .sealed .now) (λ j h. omega (arith, q .shared-slice-known4 .given j)),
+      bytes-of (a .file .now) (λ j h. omega (arith, q .shared-slice-known4 .given j)),
     )
 
 -- the sealed text is whole blocks
 abbrev size : tie.Else2 → ℕ
-size c = length (given (c .before .before) .args .sealed .now)
+size c = length (given (c .before .before) .args .file .now)
 
 whole : (c : tie.Else2) → (0 < size c) × (size c ≤ longestCode) × (size c % blockLength ≡ 0)
 whole c = text-known _ (sym (c .before .bad-text .ensures) ∙ c .if2 .left)
@@ -62,7 +62,7 @@ few-is c =
     let a = given i .args in
     let good = sym (t .before .bad-text .ensures) ∙ t .if2 .left in
     let last = c .before .before .open-block .ensures in
-    few (a .schedule) (a .key .now) (a .set .now) (a .iv .now) (a .sealed .now) (a .out .now) _ _ (known s) (set-is i) (i .if1 .left) good (r .before .if3 .left)
+    few (a .schedule) (a .key .now) (a .set .now) (a .iv .now) (a .file .now) (a .out .now) _ _ (known s) (set-is i) (i .if1 .left) good (r .before .if3 .left)
     (texts i .0) (texts i .1) _ _ _ _ (r .key-rows .ensures) (c .before .before .before .before .before .decodings .ensures) last (c .before .padding .ensures) (c .if4 .left)
 
 -- what the functions on blocks ask for

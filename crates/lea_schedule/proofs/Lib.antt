@@ -1,0 +1,3 @@
+pub mod TurnSums
+pub mod ScheduleLaws
+pub mod Schedule32
