@@ -12,6 +12,7 @@ pub mod pad;
 pub mod reading;
 pub mod refusal;
 pub mod round;
+pub mod sha256;
 pub mod size;
 
 pub use size::Size;
