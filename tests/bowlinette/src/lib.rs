@@ -1,10 +1,11 @@
-//! The functions of include/bowlinette.h for Rust, over slices, and the three of the tests' own
+//! The functions of include/bowlinette.h for Rust, over slices, and the four of the tests' own
 //! library. Each returns 0, or the number of a refusal, in which case what it may write to is as it
 //! was; but for the two round trips, which have scratch buffers.
 
 mod c {
     extern "C" {
         pub fn bowlinette_encipher(
+            schedule: u8,
             key: *const u8,
             key_length: usize,
             block: *const u8,
@@ -12,6 +13,7 @@ mod c {
             out: *mut u8,
         ) -> u32;
         pub fn bowlinette_decipher(
+            schedule: u8,
             key: *const u8,
             key_length: usize,
             block: *const u8,
@@ -19,6 +21,7 @@ mod c {
             out: *mut u8,
         ) -> u32;
         pub fn bowlinette_first_rounds(
+            schedule: u8,
             key: *const u8,
             key_length: usize,
             rounds: usize,
@@ -27,12 +30,14 @@ mod c {
             out: *mut u8,
         ) -> u32;
         pub fn bowlinette_round_keys(
+            schedule: u8,
             key: *const u8,
             key_length: usize,
             round: usize,
             row: *mut u32,
         ) -> u32;
         pub fn bowlinette_cbc_mac(
+            schedule: u8,
             key: *const u8,
             key_length: usize,
             text: *const u8,
@@ -69,6 +74,7 @@ mod c {
             drawn: *mut u64,
         ) -> u32;
         pub fn bowlinette_build(
+            schedule: u8,
             key: *const u8,
             key_length: usize,
             chain: *const u8,
@@ -77,6 +83,7 @@ mod c {
             out_length: usize,
         ) -> u32;
         pub fn bowlinette_build_round(
+            schedule: u8,
             key: *const u8,
             key_length: usize,
             chain: *const u8,
@@ -86,6 +93,7 @@ mod c {
             out_length: usize,
         ) -> u32;
         pub fn bowlinette_build_reading(
+            schedule: u8,
             key: *const u8,
             key_length: usize,
             chain: *const u8,
@@ -171,6 +179,7 @@ mod c {
             tag: *mut u8,
         ) -> u32;
         pub fn bowlinette_open(
+            schedule: u8,
             key: *const u8,
             key_length: usize,
             set: *const u8,
@@ -184,6 +193,7 @@ mod c {
             length: *mut u64,
         ) -> u32;
         pub fn bowlinette_check(
+            schedule: u8,
             key: *const u8,
             key_length: usize,
             set: *const u8,
@@ -195,6 +205,7 @@ mod c {
             valid: *mut u8,
         ) -> u32;
         pub fn bowlinette_is_valid(
+            schedule: u8,
             key: *const u8,
             key_length: usize,
             set: *const u8,
@@ -228,7 +239,10 @@ mod c {
             out_length: usize,
             length: *mut u64,
         ) -> u32;
+        pub fn bowlinette_sha256(message: *const u8, message_length: usize, digest: *mut u8)
+            -> u32;
         pub fn bowlinette_tag_roundtrip(
+            schedule: u8,
             key: *const u8,
             key_length: usize,
             chain: *const u8,
@@ -242,6 +256,7 @@ mod c {
             valid: *mut u8,
         ) -> u32;
         pub fn bowlinette_seal_roundtrip(
+            schedule: u8,
             key: *const u8,
             key_length: usize,
             chain: *const u8,
@@ -268,9 +283,10 @@ mod c {
 
 /// A block enciphered, into out.
 #[inline]
-pub fn encipher(key: &[u8], block: &[u8], out: &mut [u8; 16]) -> u32 {
+pub fn encipher(schedule: u8, key: &[u8], block: &[u8], out: &mut [u8; 16]) -> u32 {
     unsafe {
         c::bowlinette_encipher(
+            schedule,
             key.as_ptr(),
             key.len(),
             block.as_ptr(),
@@ -282,9 +298,10 @@ pub fn encipher(key: &[u8], block: &[u8], out: &mut [u8; 16]) -> u32 {
 
 /// A block deciphered, into out.
 #[inline]
-pub fn decipher(key: &[u8], block: &[u8], out: &mut [u8; 16]) -> u32 {
+pub fn decipher(schedule: u8, key: &[u8], block: &[u8], out: &mut [u8; 16]) -> u32 {
     unsafe {
         c::bowlinette_decipher(
+            schedule,
             key.as_ptr(),
             key.len(),
             block.as_ptr(),
@@ -296,9 +313,16 @@ pub fn decipher(key: &[u8], block: &[u8], out: &mut [u8; 16]) -> u32 {
 
 /// A block after the first rounds, into out.
 #[inline]
-pub fn first_rounds(key: &[u8], rounds: usize, block: &[u8], out: &mut [u8; 16]) -> u32 {
+pub fn first_rounds(
+    schedule: u8,
+    key: &[u8],
+    rounds: usize,
+    block: &[u8],
+    out: &mut [u8; 16],
+) -> u32 {
     unsafe {
         c::bowlinette_first_rounds(
+            schedule,
             key.as_ptr(),
             key.len(),
             rounds,
@@ -311,16 +335,17 @@ pub fn first_rounds(key: &[u8], rounds: usize, block: &[u8], out: &mut [u8; 16])
 
 /// The round keys of one round, into row.
 #[inline]
-pub fn round_keys(key: &[u8], round: usize, row: &mut [u32; 6]) -> u32 {
-    unsafe { c::bowlinette_round_keys(key.as_ptr(), key.len(), round, row.as_mut_ptr()) }
+pub fn round_keys(schedule: u8, key: &[u8], round: usize, row: &mut [u32; 6]) -> u32 {
+    unsafe { c::bowlinette_round_keys(schedule, key.as_ptr(), key.len(), round, row.as_mut_ptr()) }
 }
 
 /// The CBC-MAC of the whole blocks of a text, into out. Not in the header: it is there to time a loop
 /// over blocks.
 #[inline]
-pub fn cbc_mac(key: &[u8], text: &[u8], out: &mut [u8; 16]) -> u32 {
+pub fn cbc_mac(schedule: u8, key: &[u8], text: &[u8], out: &mut [u8; 16]) -> u32 {
     unsafe {
         c::bowlinette_cbc_mac(
+            schedule,
             key.as_ptr(),
             key.len(),
             text.as_ptr(),
@@ -328,6 +353,13 @@ pub fn cbc_mac(key: &[u8], text: &[u8], out: &mut [u8; 16]) -> u32 {
             out.as_mut_ptr(),
         )
     }
+}
+
+/// The SHA-256 digest of a message of at most 55 bytes, into digest. Not in the header: it is there for the
+/// tests.
+#[inline]
+pub fn sha256(message: &[u8], digest: &mut [u8; 32]) -> u32 {
+    unsafe { c::bowlinette_sha256(message.as_ptr(), message.len(), digest.as_mut_ptr()) }
 }
 
 /// Whether a set that comes alone is one.
@@ -389,9 +421,10 @@ pub fn make_reading_chain(
 
 /// The book of a key and a chain, to the front of out.
 #[inline]
-pub fn build(key: &[u8], chain: &[u8], out: &mut [u8]) -> u32 {
+pub fn build(schedule: u8, key: &[u8], chain: &[u8], out: &mut [u8]) -> u32 {
     unsafe {
         c::bowlinette_build(
+            schedule,
             key.as_ptr(),
             key.len(),
             chain.as_ptr(),
@@ -404,9 +437,10 @@ pub fn build(key: &[u8], chain: &[u8], out: &mut [u8]) -> u32 {
 
 /// The tables of one round of the book, to the front of out.
 #[inline]
-pub fn build_round(key: &[u8], chain: &[u8], round: usize, out: &mut [u8]) -> u32 {
+pub fn build_round(schedule: u8, key: &[u8], chain: &[u8], round: usize, out: &mut [u8]) -> u32 {
     unsafe {
         c::bowlinette_build_round(
+            schedule,
             key.as_ptr(),
             key.len(),
             chain.as_ptr(),
@@ -420,9 +454,10 @@ pub fn build_round(key: &[u8], chain: &[u8], round: usize, out: &mut [u8]) -> u3
 
 /// The reading book of a key and a reading chain, to the front of out.
 #[inline]
-pub fn build_reading(key: &[u8], chain: &[u8], out: &mut [u8]) -> u32 {
+pub fn build_reading(schedule: u8, key: &[u8], chain: &[u8], out: &mut [u8]) -> u32 {
     unsafe {
         c::bowlinette_build_reading(
+            schedule,
             key.as_ptr(),
             key.len(),
             chain.as_ptr(),
@@ -595,6 +630,7 @@ impl Session {
 /// A sealed message opened, to the front of out, and its length, into length.
 #[inline]
 pub fn open(
+    schedule: u8,
     key: &[u8],
     set: &[u8],
     iv: &[u8],
@@ -604,6 +640,7 @@ pub fn open(
 ) -> u32 {
     unsafe {
         c::bowlinette_open(
+            schedule,
             key.as_ptr(),
             key.len(),
             set.as_ptr(),
@@ -621,9 +658,17 @@ pub fn open(
 
 /// Whether a tag is that of a message, 1 or 0, into valid.
 #[inline]
-pub fn check(key: &[u8], set: &[u8], message: &[u8], tag: &[u8], valid: &mut u8) -> u32 {
+pub fn check(
+    schedule: u8,
+    key: &[u8],
+    set: &[u8],
+    message: &[u8],
+    tag: &[u8],
+    valid: &mut u8,
+) -> u32 {
     unsafe {
         c::bowlinette_check(
+            schedule,
             key.as_ptr(),
             key.len(),
             set.as_ptr(),
@@ -639,9 +684,10 @@ pub fn check(key: &[u8], set: &[u8], message: &[u8], tag: &[u8], valid: &mut u8)
 
 /// Whether a tag is Valid: 1, or 0 where it is Invalid or checking refuses.
 #[inline]
-pub fn is_valid(key: &[u8], set: &[u8], message: &[u8], tag: &[u8]) -> u32 {
+pub fn is_valid(schedule: u8, key: &[u8], set: &[u8], message: &[u8], tag: &[u8]) -> u32 {
     unsafe {
         c::bowlinette_is_valid(
+            schedule,
             key.as_ptr(),
             key.len(),
             set.as_ptr(),
@@ -701,6 +747,7 @@ pub fn write_ink(
 /// the tests, and a refusal leaves in the scratch buffers what the calls before it wrote.
 #[inline]
 pub fn tag_roundtrip(
+    schedule: u8,
     key: &[u8],
     chain: &[u8],
     message: &[u8],
@@ -709,6 +756,7 @@ pub fn tag_roundtrip(
 ) -> u32 {
     unsafe {
         c::bowlinette_tag_roundtrip(
+            schedule,
             key.as_ptr(),
             key.len(),
             chain.as_ptr(),
@@ -728,6 +776,7 @@ pub fn tag_roundtrip(
 /// length.
 #[inline]
 pub fn seal_roundtrip(
+    schedule: u8,
     key: &[u8],
     chain: &[u8],
     iv: &[u8],
@@ -737,6 +786,7 @@ pub fn seal_roundtrip(
 ) -> u32 {
     unsafe {
         c::bowlinette_seal_roundtrip(
+            schedule,
             key.as_ptr(),
             key.len(),
             chain.as_ptr(),

@@ -38,44 +38,62 @@ pub fn check_reading_chain(key: usize, chain: &[u8]) -> u32 {
 }
 
 /// Building on both versions.
-pub type Build = fn(&[u8], &[u8], usize) -> (u32, Vec<u8>);
+pub type Build = fn(u8, &[u8], &[u8], usize) -> (u32, Vec<u8>);
 
-/// What both versions of a builder make of a key and a chain in a buffer of a length: the number, and
-/// the buffer.
+/// What both versions of a builder make of a schedule, a key and a chain in a buffer of a length: the number,
+/// and the buffer.
 fn built(
     name: &str,
-    (key, chain, room): (&[u8], &[u8], usize),
-    proved: fn(&[u8], &[u8], &mut [u8]) -> u32,
+    (schedule, key, chain, room): (u8, &[u8], &[u8], usize),
+    proved: fn(u8, &[u8], &[u8], &mut [u8]) -> u32,
     reference: book::Build,
 ) -> (u32, Vec<u8>) {
     let (told, left) = both(
-        (name, key.len(), chain.len(), room),
+        (name, schedule, key.len(), chain.len(), room),
         room,
-        |out| answer(proved(key, chain, out)),
-        |out| reference(key, chain, out),
+        |out| answer(proved(schedule, key, chain, out)),
+        |out| reference(schedule, key, chain, out),
     );
     (told.err().unwrap_or(0), left)
 }
 
 /// The book of a key and a chain in a buffer of a length: the number, and the buffer.
-pub fn build(key: &[u8], chain: &[u8], room: usize) -> (u32, Vec<u8>) {
+pub fn build(schedule: u8, key: &[u8], chain: &[u8], room: usize) -> (u32, Vec<u8>) {
     let proved = bowlinette::build;
-    built("build", (key, chain, room), proved, book::build)
+    built("build", (schedule, key, chain, room), proved, book::build)
 }
 
 /// The reading book of a key and a reading chain.
-pub fn build_reading(key: &[u8], chain: &[u8], room: usize) -> (u32, Vec<u8>) {
+pub fn build_reading(schedule: u8, key: &[u8], chain: &[u8], room: usize) -> (u32, Vec<u8>) {
     let proved = bowlinette::build_reading;
-    built("build_reading", (key, chain, room), proved, reading::build)
+    built(
+        "build_reading",
+        (schedule, key, chain, room),
+        proved,
+        reading::build,
+    )
 }
 
 /// One round of a book.
-pub fn build_round(key: &[u8], chain: &[u8], number: usize, room: usize) -> (u32, Vec<u8>) {
+pub fn build_round(
+    schedule: u8,
+    key: &[u8],
+    chain: &[u8],
+    number: usize,
+    room: usize,
+) -> (u32, Vec<u8>) {
     let (told, left) = both(
-        ("build_round", key.len(), chain.len(), number, room),
+        (
+            "build_round",
+            schedule,
+            key.len(),
+            chain.len(),
+            number,
+            room,
+        ),
         room,
-        |out| answer(bowlinette::build_round(key, chain, number, out)),
-        |out| book::build_round(key, chain, number, out),
+        |out| answer(bowlinette::build_round(schedule, key, chain, number, out)),
+        |out| book::build_round(schedule, key, chain, number, out),
     );
     (told.err().unwrap_or(0), left)
 }

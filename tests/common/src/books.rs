@@ -1,23 +1,30 @@
 //! Random books, and what is refused of a book.
 
 use crate::chains;
+use crate::schedules::each;
 use crate::Random;
 use reference::book::{self, FRONT, GROUP, ROUND, START};
 use reference::chain::SET;
 use reference::{reading, Size};
 
-/// A key, a chain and their book; or a key, a reading chain and their reading book.
+/// A schedule, a key, a chain and their book; or a reading chain in place of the chain, and the reading book.
 pub struct Built {
+    pub schedule: u8,
     pub key: Vec<u8>,
     pub chain: Vec<u8>,
     pub book: Vec<u8>,
 }
 
-pub fn built(size: Size, random: &mut Random) -> Built {
+pub fn built(schedule: u8, size: Size, random: &mut Random) -> Built {
     let (key, chain) = (random.bytes(size.key_bytes()), chains::valid(size, random));
     let mut book = vec![0; size.book_bytes()];
-    assert_eq!(book::build(&key, &chain, &mut book), Ok(()));
-    Built { key, chain, book }
+    assert_eq!(book::build(schedule, &key, &chain, &mut book), Ok(()));
+    Built {
+        schedule,
+        key,
+        chain,
+        book,
+    }
 }
 
 impl Built {
@@ -35,14 +42,19 @@ impl Built {
         &self.chain[SET * (self.size().rounds() + 1)..][..SET]
     }
 
-    /// What reads the files that a book seals: the same key, a reading chain with set r as set 0, and
+    /// What reads the files that a book seals: the same schedule and key, a reading chain with set r as set 0, and
     /// their reading book.
     pub fn reading(&self, random: &mut Random) -> Built {
-        let (key, size) = (self.key.clone(), self.size());
+        let (schedule, key, size) = (self.schedule, self.key.clone(), self.size());
         let chain = chains::reading(size, Some(self.last_set()), random);
         let mut book = vec![0; size.reading_bytes()];
-        assert_eq!(reading::build(&key, &chain, &mut book), Ok(()));
-        Built { key, chain, book }
+        assert_eq!(reading::build(schedule, &key, &chain, &mut book), Ok(()));
+        Built {
+            schedule,
+            key,
+            chain,
+            book,
+        }
     }
 }
 
@@ -95,25 +107,23 @@ pub fn fronts(random: &mut Random) -> [Vec<u8>; 6] {
 /// Books, each with its size.
 pub type Books = Vec<(Size, Vec<u8>)>;
 
-/// Two books of each size.
-fn two_each(random: &mut Random, two: impl Fn(Size, &mut Random) -> [Vec<u8>; 2]) -> Books {
-    let each = |size| two(size, random).map(|book| (size, book));
-    Size::ALL.into_iter().flat_map(each).collect()
-}
-
-/// A book, and random bytes that are taken as one, of each size.
+/// A book of each schedule and size, and random bytes that are taken as one, of each size.
 pub fn any(random: &mut Random) -> Books {
-    two_each(random, |size, random| {
-        [built(size, random).book, bytes(size, random)]
-    })
+    let built = each().map(|(schedule, size)| (size, built(schedule, size, random).book));
+    let mut books: Books = built.collect();
+    books.extend(Size::ALL.map(|size| (size, bytes(size, random))));
+    books
 }
 
-/// A reading book, and bytes of a reading book's length, of each size.
+/// A reading book of each schedule and size, and bytes of a reading book's length, of each size.
 pub fn any_reading(random: &mut Random) -> Books {
-    two_each(random, |size, random| {
-        let book = built(size, random).reading(random).book;
-        [book, random.bytes(size.reading_bytes())]
-    })
+    let built = each().map(|(schedule, size)| {
+        let sealing = built(schedule, size, random);
+        (size, sealing.reading(random).book)
+    });
+    let mut books: Books = built.collect();
+    books.extend(Size::ALL.map(|size| (size, random.bytes(size.reading_bytes()))));
+    books
 }
 
 /// A book with the bits changed that a reader does not use of the byte at a place.

@@ -3,9 +3,11 @@
 use reference::lea::{self, Block};
 
 /// CMAC of a message (SP 800-38B): the last block filled up and xored with its subkey, then chaining.
-pub fn cmac(key: &[u8], message: &[u8]) -> Block {
+pub fn cmac(schedule: u8, key: &[u8], message: &[u8]) -> Block {
     let double = |n: u128| (n << 1) ^ ((n >> 127) * 0x87);
-    let first = double(u128::from_be_bytes(lea::encipher(key, &[0; 16]).unwrap()));
+    let first = double(u128::from_be_bytes(
+        lea::encipher(schedule, key, &[0; 16]).unwrap(),
+    ));
     let whole = !message.is_empty() && message.len() % 16 == 0;
     let mut text = message.to_vec();
     if !whole {
@@ -17,5 +19,5 @@ pub fn cmac(key: &[u8], message: &[u8]) -> Block {
     for (x, y) in text[last..].iter_mut().zip(subkey) {
         *x ^= y;
     }
-    lea::cbc_mac(key, &text).unwrap()
+    lea::cbc_mac(schedule, key, &text).unwrap()
 }

@@ -21,6 +21,11 @@ impl Random {
         several[self.below(several.len())]
     }
 
+    /// The number of a schedule.
+    pub fn schedule(&mut self) -> u8 {
+        self.below(2) as u8
+    }
+
     pub fn bytes(&mut self, count: usize) -> Vec<u8> {
         (0..count).map(|_| self.number() as u8).collect()
     }

@@ -9,6 +9,7 @@ use reference::{book, driver, pad, refusal, Size};
 /// What a round trip is given, and the lengths of its buffers: book, code, sealed file, message.
 #[derive(Clone)]
 pub struct Given<'a> {
+    pub schedule: u8,
     pub key: Vec<u8>,
     pub chain: Vec<u8>,
     pub iv: Vec<u8>,
@@ -25,10 +26,11 @@ struct Left<T, const N: usize> {
 }
 
 impl<'a> Given<'a> {
-    /// A random key, chain and IV, and buffers with so many bytes more than both need.
+    /// A random schedule, key, chain and IV, and buffers with so many bytes more than both need.
     pub fn new(size: Size, message: &'a [u8], more: usize, random: &mut Random) -> Given<'a> {
         let code = message.len() / BLOCK * BLOCK + BLOCK;
         Given {
+            schedule: random.schedule(),
             key: random.bytes(size.key_bytes()),
             chain: chains::valid(size, random),
             iv: random.bytes(BLOCK),
@@ -45,6 +47,7 @@ impl<'a> Given<'a> {
     pub fn tagged(&self) -> u32 {
         let (mut buffers, mut told) = (self.buffers(), FILL);
         let number = bowlinette::tag_roundtrip(
+            self.schedule,
             &self.key,
             &self.chain,
             self.message,
@@ -64,8 +67,15 @@ impl<'a> Given<'a> {
     pub fn sealed(&self) -> u32 {
         let (mut buffers, mut told) = (self.buffers(), LENGTH);
         let (key, chain, iv) = (&self.key, &self.chain, &self.iv);
-        let number =
-            bowlinette::seal_roundtrip(key, chain, iv, self.message, &mut buffers, &mut told);
+        let number = bowlinette::seal_roundtrip(
+            self.schedule,
+            key,
+            chain,
+            iv,
+            self.message,
+            &mut buffers,
+            &mut told,
+        );
         let left = Left {
             number,
             told,
@@ -80,7 +90,7 @@ impl<'a> Given<'a> {
         let mut buffers = self.buffers();
         let [book, coded] = &mut buffers;
         let written = || -> Result<(), u32> {
-            book::build(&self.key, &self.chain, book)?;
+            book::build(self.schedule, &self.key, &self.chain, book)?;
             pad::code_for_tag(&self.chain[..SET], self.message, coded)?;
             Ok(())
         }();
@@ -96,7 +106,7 @@ impl<'a> Given<'a> {
         let mut buffers = self.buffers();
         let [book, coded, sealed, out] = &mut buffers;
         let written = || -> Result<(), u32> {
-            book::build(&self.key, &self.chain, book)?;
+            book::build(self.schedule, &self.key, &self.chain, book)?;
             let n = pad::code_for_sealing(&self.chain[..SET], self.message, coded)?;
             let length = Size::of_key(self.key.len()).unwrap().book_bytes();
             driver::seal(&book[..length], &self.iv, &coded[..n], sealed)?;
@@ -113,7 +123,7 @@ impl<'a> Given<'a> {
 
     pub fn lengths(&self) -> String {
         let (key, chain, iv) = (self.key.len(), self.chain.len(), self.iv.len());
-        let (message, rooms) = (self.message.len(), self.rooms);
-        format!("key {key}, chain {chain}, IV {iv}, message {message}, buffers {rooms:?}")
+        let (schedule, message, rooms) = (self.schedule, self.message.len(), self.rooms);
+        format!("schedule {schedule}, key {key}, chain {chain}, IV {iv}, message {message}, buffers {rooms:?}")
     }
 }

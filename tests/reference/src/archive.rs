@@ -1,21 +1,23 @@
-//! The archive (01, "Pad, driver, archive"): with the key and set r it opens sealed files and checks
+//! The archive (01, "Pad, driver, archive"): with the key, its schedule and set r it opens sealed files and checks
 //! tags.
 
 use crate::book::double;
 use crate::lea::{self, deciphered, enciphered, state, Block, Row, State};
+use crate::schedule::{expand, EMPTY};
 use crate::{chain, driver, pad, refusal};
 
 /// A sealed file opened from its IV, to the front of out: the length of the message. The last block
 /// comes first, as nothing may be written where its padding is none.
 pub fn open(
+    schedule: u8,
     key: &[u8],
     set: &[u8],
     iv: &[u8],
     sealed: &[u8],
     out: &mut [u8],
 ) -> Result<usize, u32> {
-    let mut rows = lea::EMPTY;
-    let size = lea::schedule(key, &mut rows)?;
+    let mut rows = EMPTY;
+    let size = expand(schedule, key, &mut rows)?;
     chain::check_set(set)?;
     let (iv, n) = (lea::whole(iv)?, sealed.len());
     let room = driver::room(n, out)?;
@@ -76,9 +78,15 @@ impl Keys<'_> {
 }
 
 /// Whether a tag, coded by set r, is that of a message.
-pub fn check(key: &[u8], set: &[u8], message: &[u8], tag: &[u8]) -> Result<bool, u32> {
-    let mut rows = lea::EMPTY;
-    let size = lea::schedule(key, &mut rows)?;
+pub fn check(
+    schedule: u8,
+    key: &[u8],
+    set: &[u8],
+    message: &[u8],
+    tag: &[u8],
+) -> Result<bool, u32> {
+    let mut rows = EMPTY;
+    let size = expand(schedule, key, &mut rows)?;
     chain::check_set(set)?;
     let tag = lea::whole(tag)?;
     if message.len() > pad::LONGEST {

@@ -4,7 +4,7 @@
 use crate::chain::{self, Chain, CODING, MIDDLES, SET};
 use crate::lea::{self, Block, Row};
 use crate::refusal;
-use crate::Size;
+use crate::schedule::{expand, EMPTY};
 
 /// The byte in front, the start, a fold table and a group of them, an add table, a turn table, the tables
 /// of a round.
@@ -16,8 +16,8 @@ pub const ADD: usize = 512;
 pub const TURN: usize = 256;
 pub const ROUND: usize = MIDDLES * (ADD + TURN);
 
-/// Building: from a key and a chain to the front of an output.
-pub type Build = fn(&[u8], &[u8], &mut [u8]) -> Result<(), u32>;
+/// Building: from the number of a schedule, a key and a chain to the front of an output.
+pub type Build = fn(u8, &[u8], &[u8], &mut [u8]) -> Result<(), u32>;
 
 /// Half byte j of new word i is made of the half bytes j + high and j + low, mod 8, of sum i.
 pub const TURNED: [(usize, usize); 3] = [(6, 5), (2, 1), (1, 0)];
@@ -206,10 +206,10 @@ pub(crate) fn room(out: &mut [u8], bytes: usize) -> Result<&mut [u8], u32> {
 }
 
 /// The whole book of a key and a chain, to the front of out.
-pub fn build(key: &[u8], chain: &[u8], out: &mut [u8]) -> Result<(), u32> {
-    let mut rows = lea::EMPTY;
+pub fn build(schedule: u8, key: &[u8], chain: &[u8], out: &mut [u8]) -> Result<(), u32> {
+    let mut rows = EMPTY;
+    let size = expand(schedule, key, &mut rows)?;
     let chain = chain::check(key.len(), chain)?;
-    let size = lea::schedule(key, &mut rows)?;
     let (front, rest) = room(out, size.book_bytes())?.split_at_mut(FRONT);
     let (start, rest) = rest.split_at_mut(START);
     let (folds, rounds) = rest.split_at_mut(3 * GROUP);
@@ -224,10 +224,16 @@ pub fn build(key: &[u8], chain: &[u8], out: &mut [u8]) -> Result<(), u32> {
 }
 
 /// The tables of one round of the book, its number taken mod the key's rounds, to the front of out.
-pub fn build_round(key: &[u8], chain: &[u8], number: usize, out: &mut [u8]) -> Result<(), u32> {
-    let mut rows = lea::EMPTY;
+pub fn build_round(
+    schedule: u8,
+    key: &[u8],
+    chain: &[u8],
+    number: usize,
+    out: &mut [u8],
+) -> Result<(), u32> {
+    let mut rows = EMPTY;
+    let size = expand(schedule, key, &mut rows)?;
     let chain = chain::check(key.len(), chain)?;
-    let size: Size = lea::schedule(key, &mut rows)?;
     let l = number % size.rounds();
     Round::new(chain, &rows[l], l).tables(room(out, ROUND)?);
     Ok(())

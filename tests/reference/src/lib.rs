@@ -1,4 +1,4 @@
-//! Document 01 and requests 2026-01 to 2026-06 in Rust, written from their words alone: what the proved
+//! Document 01 and requests 2026-01 to 2026-07 in Rust, written from their words alone: what the proved
 //! library is compared with, and the yardstick of the benchmarks.
 
 pub mod archive;
@@ -12,7 +12,9 @@ pub mod pad;
 pub mod reading;
 pub mod refusal;
 pub mod round;
+pub mod schedule;
 pub mod sha256;
 pub mod size;
 
+pub use schedule::Schedule;
 pub use size::Size;

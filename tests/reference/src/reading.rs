@@ -4,7 +4,8 @@
 use crate::book::{self, coding, Round, GROUP, TURN};
 use crate::chain::{self, Chain, MIDDLES, SET};
 use crate::driver::{self, added, block, fold, halves, turned, Halves};
-use crate::lea::{self, whole, Row};
+use crate::lea::{whole, Row};
+use crate::schedule::{expand, EMPTY};
 use crate::{refusal, Size};
 
 /// A subtract table, and the tables of a reading round.
@@ -63,10 +64,10 @@ impl<'a> Undone<'a> {
 }
 
 /// The reading book of a key and a reading chain, to the front of out.
-pub fn build(key: &[u8], chain: &[u8], out: &mut [u8]) -> Result<(), u32> {
-    let mut rows = lea::EMPTY;
+pub fn build(schedule: u8, key: &[u8], chain: &[u8], out: &mut [u8]) -> Result<(), u32> {
+    let mut rows = EMPTY;
+    let size = expand(schedule, key, &mut rows)?;
     let chain = chain::check_reading(key.len(), chain)?;
-    let size = lea::schedule(key, &mut rows)?;
     let (r, out) = (size.rounds(), book::room(out, size.reading_bytes())?);
     let (rounds, group) = out.split_at_mut(ROUND * r);
     for (l, tables) in rounds.chunks_exact_mut(ROUND).enumerate() {

@@ -1,5 +1,5 @@
 //! The numbers of the refusals (01, "Refusals from the input" and "Refusals from the state"; 02, requests
-//! 2026-02, 2026-03, 2026-05 and 2026-06).
+//! 2026-02, 2026-03 and 2026-05 to 2026-07).
 
 /// The key has none of the three sizes.
 pub const KEY_LENGTH: u32 = 1;
@@ -35,3 +35,5 @@ pub const RECORD_LENGTH: u32 = 31;
 pub const RAN_OUT: u32 = 32;
 /// The byte in front of a book is not the key length that belongs to the book's length.
 pub const SIZE_BYTE: u32 = 33;
+/// The number of a schedule is neither 0 nor 1; comes before all others.
+pub const SCHEDULE: u32 = 34;

@@ -2,7 +2,7 @@
 //! the opened block is what the first n rounds of LEA make of the coded block decoded by set 0.
 
 use crate::lea::{self, Block};
-use crate::{chain, refusal, Size};
+use crate::{chain, refusal, Schedule, Size};
 
 /// What the program prints for its input.
 pub fn printed(input: &[u8]) -> String {
@@ -32,8 +32,10 @@ fn opened(input: &[u8]) -> Result<(Block, usize, Block), u32> {
     let chain = chain::check(key.len(), codings)?;
     let (coded, _) = parted(rest, 16).ok_or(refusal::BLOCK_LENGTH)?;
     let plain = chain::decode(chain.set(0), coded.try_into().unwrap());
-    let first = lea::first_rounds(key, 1, &plain)?;
-    Ok((first, size.rounds(), lea::encipher(key, &plain)?))
+    let schedule = Schedule::Lea.number();
+    let first = lea::first_rounds(schedule, key, 1, &plain)?;
+    let last = lea::encipher(schedule, key, &plain)?;
+    Ok((first, size.rounds(), last))
 }
 
 /// The first bytes, if there are so many, and the rest.

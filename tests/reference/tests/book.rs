@@ -1,5 +1,5 @@
 //! Books of the reference by what they are for: their tables, run on coded blocks and decoded, do
-//! what LEA does, and hold each entry that is due. And by their layout: the key length in front, then every
+//! what the cipher does, and hold each entry that is due. And by their layout: the key length in front, then every
 //! byte, and what is refused of them.
 
 mod given;
@@ -9,15 +9,15 @@ use reference::book::{self, FRONT, GROUP, ROUND, START};
 use reference::chain::{self, decode, Chain, CODING, MIDDLES, SET};
 use reference::driver::{block, fold, halves, round, run_round, run_rounds, seal, Session};
 use reference::lea::{self, Block};
-use reference::Size;
 use shared::chains::{uniform, IDENTITY};
+use shared::schedules::each;
 
 /// The key lengths, and the lengths of their books (request 2026-05).
 const LENGTHS: [(usize, usize); 3] = [(16, 466_961), (24, 540_689), (32, 614_417)];
 
 /// What the three groups of folds have in them: nothing, K1, K2.
-fn subkeys(key: &[u8]) -> [Block; 3] {
-    let l = u128::from_be_bytes(lea::encipher(key, &[0; 16]).unwrap());
+fn subkeys(schedule: u8, key: &[u8]) -> [Block; 3] {
+    let l = u128::from_be_bytes(lea::encipher(schedule, key, &[0; 16]).unwrap());
     let double = |n: u128| (n << 1) ^ ((n >> 127) * 0x87);
     [0, double(l), double(double(l))].map(u128::to_be_bytes)
 }
@@ -25,15 +25,15 @@ fn subkeys(key: &[u8]) -> [Block; 3] {
 #[test]
 fn rounds_of_tables_are_rounds_of_the_cipher() {
     let mut below = numbers(1);
-    for size in Size::ALL {
-        let (key, bytes, book) = built(size, &mut below);
+    for (schedule, size) in each() {
+        let (key, bytes, book) = built(schedule, size, &mut below);
         let chain = chain::check(key.len(), &bytes).ok().unwrap();
         for _ in 0..20 {
             let coded = given::block(&mut below);
             let (plain, mut x) = (decode(chain.set(0), &coded), halves(&coded));
             for l in 0..size.rounds() {
                 x = round(&book[FRONT + START + 3 * GROUP + ROUND * l..][..ROUND], &x);
-                let want = lea::first_rounds(&key, l + 1, &plain).unwrap();
+                let want = lea::first_rounds(schedule, &key, l + 1, &plain).unwrap();
                 assert_eq!(decode(chain.set(l + 1), &block(&x)), want, "{size:?}, {l}");
             }
         }
@@ -61,12 +61,12 @@ fn add_entry(
 #[test]
 fn every_entry_of_the_adds() {
     let mut below = numbers(17);
-    for size in Size::ALL {
-        let (key, bytes, book) = built(size, &mut below);
+    for (schedule, size) in each() {
+        let (key, bytes, book) = built(schedule, size, &mut below);
         let chain = chain::check(key.len(), &bytes).ok().unwrap();
         let rounds = book[FRONT + START + 3 * GROUP..].chunks_exact(ROUND);
         for (l, tables) in rounds.enumerate() {
-            let row = lea::round_keys(&key, l).unwrap();
+            let row = lea::round_keys(schedule, &key, l).unwrap();
             for (k, &entry) in tables[..24 * 512].iter().enumerate() {
                 let (place, c) = ((k / 4096, k / 512 % 8), (k / 256 % 2) as u8);
                 let due = add_entry(chain, &row, l, place, (c, k / 16 % 16, k % 16));
@@ -80,14 +80,17 @@ fn every_entry_of_the_adds() {
 /// carry is seen where the mask at half byte 0 is 0, and not where that is 1 (request 2026-06).
 #[test]
 fn the_top_of_a_sum() {
-    for size in Size::ALL {
+    for (schedule, size) in each() {
         let (key, mut tables) = (vec![0x5c; size.key_bytes()], [0; ROUND]);
-        let row = lea::round_keys(&key, 0).unwrap();
+        let row = lea::round_keys(schedule, &key, 0).unwrap();
         let mut chain = uniform(size, IDENTITY, 0);
         let masks = SET * (size.rounds() + 2) + MIDDLES * CODING;
         for (i, (mask, due)) in (0..3).flat_map(|i| [(0, 17), (1, 1)].map(|due| (i, due))) {
             chain[masks + 8 * i] = mask;
-            assert_eq!(book::build_round(&key, &chain, 0, &mut tables), Ok(()));
+            assert_eq!(
+                book::build_round(schedule, &key, &chain, 0, &mut tables),
+                Ok(())
+            );
             let [p, q] = [(9, 2 * i), (8, 2 * i + 1)].map(|(x, k)| x ^ (row[k] >> 28) as usize);
             let entry = tables[512 * (8 * i + 7) + 16 * p + q];
             assert_eq!(entry, due, "{size:?}, sum {i}, mask {mask}");
@@ -98,14 +101,14 @@ fn the_top_of_a_sum() {
 #[test]
 fn folds_are_xors() {
     let mut below = numbers(2);
-    for size in Size::ALL {
-        let (key, bytes, book) = built(size, &mut below);
+    for (schedule, size) in each() {
+        let (key, bytes, book) = built(schedule, size, &mut below);
         let chain = chain::check(key.len(), &bytes).ok().unwrap();
         let last = chain.set(size.rounds());
         let zero: Block = book[FRONT..][..START].try_into().unwrap();
         assert_eq!(decode(last, &zero), [0; 16], "{size:?}, the start");
         let groups = book[FRONT + START..][..3 * GROUP].chunks_exact(GROUP);
-        for (group, subkey) in groups.zip(subkeys(&key)) {
+        for (group, subkey) in groups.zip(subkeys(schedule, &key)) {
             let (text, message) = (given::block(&mut below), given::block(&mut below));
             let folded = block(&fold(group, &halves(&text), &halves(&message)));
             let plain = xor(decode(last, &text), decode(chain.message(), &message));
@@ -135,16 +138,24 @@ fn group(chain: Chain, subkey: Block) -> Vec<u8> {
 #[test]
 fn every_part_in_its_place() {
     let mut below = numbers(10);
-    for (size, (key_bytes, length)) in Size::ALL.into_iter().zip(LENGTHS) {
-        let (key, bytes, book) = built(size, &mut below);
+    for (schedule, size) in each() {
+        let (key_bytes, length) = LENGTHS[size as usize];
+        let (key, bytes, book) = built(schedule, size, &mut below);
         let chain = chain::check(key.len(), &bytes).ok().unwrap();
         let start = chain::code(chain.set(size.rounds()), &[0; 16]);
         let mut due = [&[key_bytes as u8][..], &start].concat();
-        due.extend(subkeys(&key).into_iter().flat_map(|k| group(chain, k)));
+        due.extend(
+            subkeys(schedule, &key)
+                .into_iter()
+                .flat_map(|k| group(chain, k)),
+        );
         assert_eq!(due.len(), 1 + 16 + 3 * 8_192, "{size:?}");
         for l in 0..size.rounds() {
             let mut tables = vec![0; 18_432];
-            assert_eq!(book::build_round(&key, &bytes, l, &mut tables), Ok(()));
+            assert_eq!(
+                book::build_round(schedule, &key, &bytes, l, &mut tables),
+                Ok(())
+            );
             due.extend(tables);
         }
         assert_eq!(due.len(), length, "{size:?}");
@@ -155,16 +166,25 @@ fn every_part_in_its_place() {
 #[test]
 fn buffers_for_a_book() {
     let mut below = numbers(11);
-    for (size, (key_bytes, length)) in Size::ALL.into_iter().zip(LENGTHS) {
-        let (key, chain, book) = built(size, &mut below);
+    for (schedule, size) in each() {
+        let (key_bytes, length) = LENGTHS[size as usize];
+        let (key, chain, book) = built(schedule, size, &mut below);
         assert_eq!((key.len(), book.len()), (key_bytes, length));
         for room in [0, 1, length - 1] {
             let mut out = vec![0x55; room];
-            assert_eq!(book::build(&key, &chain, &mut out), Err(9), "{room}");
+            assert_eq!(
+                book::build(schedule, &key, &chain, &mut out),
+                Err(9),
+                "{room}"
+            );
             assert!(out.iter().all(|&x| x == 0x55), "{room}");
         }
         let mut out = vec![0x55; length + 2];
-        assert_eq!(book::build(&key, &chain, &mut out), Ok(()), "{size:?}");
+        assert_eq!(
+            book::build(schedule, &key, &chain, &mut out),
+            Ok(()),
+            "{size:?}"
+        );
         assert!(
             out[..length] == book && out[length..] == [0x55; 2],
             "{size:?}"

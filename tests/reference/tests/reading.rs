@@ -1,5 +1,5 @@
 //! Reading books of the reference by what they are for: their tables, run on coded blocks and decoded,
-//! undo what LEA does, and what was sealed is read.
+//! undo what the cipher does, and what was sealed is read.
 
 mod given;
 
@@ -7,10 +7,13 @@ use given::{block, built, hidden, numbers, opened, xor};
 use reference::chain::{self, check_reading, decode, decode_all, Chain, CODING, SET, WORD};
 use reference::driver::{self, halves};
 use reference::lea::{self, Block};
+use reference::schedule::{expand, EMPTY};
 use reference::{pad, reading, Size};
+use shared::schedules::each;
 
-/// A key, its sealing book, and the chains and the reading book that go with it.
+/// A key and its schedule, its sealing book, and the chains and the reading book that go with it.
 struct Given {
+    schedule: u8,
     size: Size,
     key: Vec<u8>,
     sealing: Vec<u8>,
@@ -21,13 +24,14 @@ struct Given {
 
 impl Given {
     /// Set 0 of the reading chain is set r of the sealing chain.
-    fn new(size: Size, below: &mut impl FnMut(usize) -> usize) -> Given {
-        let (key, sealing, book) = built(size, below);
+    fn new(schedule: u8, size: Size, below: &mut impl FnMut(usize) -> usize) -> Given {
+        let (key, sealing, book) = built(schedule, size, below);
         let last = &sealing[SET * (size.rounds() + 1)..][..SET];
         let chain = chain::random_reading(size, Some(last), below);
         let mut reading = vec![0; size.reading_bytes()];
-        assert_eq!(reading::build(&key, &chain, &mut reading), Ok(()));
+        assert_eq!(reading::build(schedule, &key, &chain, &mut reading), Ok(()));
         Given {
+            schedule,
             size,
             key,
             sealing,
@@ -50,19 +54,20 @@ impl Given {
     }
 }
 
-/// Runs a check on random keys, chains and books of each size.
+/// Runs a check on random keys, chains and books of each schedule and size.
 fn on_each(seed: u32, mut check: impl FnMut(Given, &mut dyn FnMut(usize) -> usize)) {
     let mut below = numbers(seed);
-    for size in Size::ALL {
-        check(Given::new(size, &mut below), &mut below);
+    for (schedule, size) in each() {
+        check(Given::new(schedule, size, &mut below), &mut below);
     }
 }
 
 #[test]
 fn reading_rounds_undo_rounds_of_the_cipher() {
     on_each(3, |given, mut below| {
-        let (chain, r, mut rows) = (given.chain(), given.size.rounds(), lea::EMPTY);
-        assert_eq!(lea::schedule(&given.key, &mut rows), Ok(given.size));
+        let (chain, r, mut rows) = (given.chain(), given.size.rounds(), EMPTY);
+        let told = expand(given.schedule, &given.key, &mut rows);
+        assert_eq!(told, Ok(given.size));
         for _ in 0..20 {
             let coded = block(&mut below);
             let (plain, mut x) = (lea::state(&decode(chain.set(0), &coded)), halves(&coded));
@@ -115,7 +120,7 @@ fn every_entry_of_the_rounds() {
             .take(r)
             .enumerate()
         {
-            let row = lea::round_keys(&given.key, r - 1 - l).unwrap();
+            let row = lea::round_keys(given.schedule, &given.key, r - 1 - l).unwrap();
             for (k, &entry) in tables.iter().enumerate() {
                 let (p, q) = (k / 16 % 16, k % 16);
                 let due = match k.checked_sub(24 * 256) {
@@ -172,7 +177,10 @@ fn any_blocks_are_read() {
         let sealed: Vec<Block> = (0..9).map(|_| block(&mut below)).collect();
         let (mut before, mut due) = (decode(set, &iv), Vec::new());
         for text in sealed.iter().map(|coded| decode(set, coded)) {
-            due.extend(xor(lea::decipher(&given.key, &text).unwrap(), before));
+            due.extend(xor(
+                lea::decipher(given.schedule, &given.key, &text).unwrap(),
+                before,
+            ));
             before = text;
         }
         assert_eq!(given.read(&iv, &sealed.concat()), due, "{:?}", given.size);
@@ -225,10 +233,13 @@ fn refusals() {
         let (key, chain, book) = (&given.key, &given.chain, &given.reading);
         let mut out = book.clone();
         let n = out.len() - 1;
-        assert_eq!(reading::build(&key[1..], &chain[1..], &mut out), Err(1));
-        assert_eq!(reading::build(key, &chain[1..], &mut out[..n]), Err(2));
-        assert_eq!(reading::build(key, &given.sealing, &mut []), Err(4));
-        assert_eq!(reading::build(key, chain, &mut out[..n]), Err(9));
+        let build = |key: &[u8], chain: &[u8], out: &mut [u8]| {
+            reading::build(given.schedule, key, chain, out)
+        };
+        assert_eq!(build(&key[1..], &chain[1..], &mut out), Err(1));
+        assert_eq!(build(key, &chain[1..], &mut out[..n]), Err(2));
+        assert_eq!(build(key, &given.sealing, &mut []), Err(4));
+        assert_eq!(build(key, chain, &mut out[..n]), Err(9));
         let mut read = |book: &[u8], iv: &[u8], sealed: &[u8], room: usize| {
             reading::read(book, iv, sealed, &mut out[..room])
         };

@@ -38,11 +38,15 @@ pub fn hidden(masks: &[u8], j: usize) -> [u8; 2] {
     }
 }
 
-/// A key, a chain and their book.
-pub fn built(size: Size, below: &mut impl FnMut(usize) -> usize) -> (Vec<u8>, Vec<u8>, Vec<u8>) {
+/// A key, a chain and their book by a schedule.
+pub fn built(
+    schedule: u8,
+    size: Size,
+    below: &mut impl FnMut(usize) -> usize,
+) -> (Vec<u8>, Vec<u8>, Vec<u8>) {
     let key: Vec<u8> = (0..size.key_bytes()).map(|_| below(256) as u8).collect();
     let chain = chain::random(size, below);
     let mut book = vec![0; size.book_bytes()];
-    assert_eq!(book::build(&key, &chain, &mut book), Ok(()));
+    assert_eq!(book::build(schedule, &key, &chain, &mut book), Ok(()));
     (key, chain, book)
 }
