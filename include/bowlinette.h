@@ -1,12 +1,13 @@
 /*
- * Bowlinette: the cipher LEA, table books of it, and what is done with them, for C and C++ programs.
+ * Bowlinette: the cipher LEA, with its own key schedule or the one-way one of WF-LEA, table books of it, and
+ * what is done with them, for C and C++ programs.
  * Link libbowlinette.a, which is built for x86-64 Linux. docs/FORMAT.md has the layout of chains, books,
  * sessions and ink files, docs/SECURITY.md what a caller must see to.
  *
  * Every function but bowlinette_is_valid returns 0, or the number of a refusal. Where several refusals
- * apply, the lowest number is returned, 33 counting as the next after 6; of an ink file, the number of the
- * first record at fault, and 9 comes last. After a refusal nothing behind any pointer has changed; after a
- * success only what the function's pointers that are not to const refer to has.
+ * apply, the lowest number is returned, 34 counting as before 1, and 33 as the next after 6; of an ink file,
+ * the number of the first record at fault, and 9 comes last. After a refusal nothing behind any pointer has
+ * changed; after a success only what the function's pointers that are not to const refer to has.
  *
  * All lengths count bytes. No pointer may be null, also where its length is 0, and what is written
  * must not overlap what is read. The functions keep nothing between calls and use no heap, so several
@@ -24,9 +25,9 @@ extern "C" {
 #endif
 
 /* The version of this interface. */
-#define BOWLINETTE_VERSION_MAJOR 3
+#define BOWLINETTE_VERSION_MAJOR 4
 #define BOWLINETTE_VERSION_MINOR 0
-#define BOWLINETTE_VERSION "3.0"
+#define BOWLINETTE_VERSION "4.0"
 
 /* What is returned. */
 #define BOWLINETTE_DONE 0
@@ -50,6 +51,15 @@ extern "C" {
 #define BOWLINETTE_REFUSED_RANDOM 32        /* the random bytes ran out */
 #define BOWLINETTE_REFUSED_SIZE_BYTE 33     /* the first byte of the book is not the key length that goes with
                                                the length of the book */
+#define BOWLINETTE_REFUSED_SCHEDULE 34      /* the schedule is neither 0 nor 1 */
+
+/*
+ * The schedule that makes the round keys of a key: LEA's, or the one-way one of WF-LEA, whose round keys are cut
+ * from SHA-256 digests, so that they do not lead back to the key. It is told to every function that is given the
+ * key; no book and no file states it. All that is built, opened and checked for one pad must go by the same one.
+ */
+#define BOWLINETTE_SCHEDULE_LEA 0
+#define BOWLINETTE_SCHEDULE_WF_LEA 1
 
 /* A block, in bytes, and the round keys of one round, in 32-bit words. */
 #define BOWLINETTE_BLOCK_LENGTH 16
@@ -206,6 +216,8 @@ static inline const char *bowlinette_text(uint32_t refusal)
         return "The random bytes ran out.";
     case BOWLINETTE_REFUSED_SIZE_BYTE:
         return "The first byte of the book is not the key length that goes with the length of the book.";
+    case BOWLINETTE_REFUSED_SCHEDULE:
+        return "The schedule is neither 0, LEA's, nor 1, WF-LEA's.";
     default:
         return "This number is not known.";
     }
@@ -213,26 +225,29 @@ static inline const char *bowlinette_text(uint32_t refusal)
 
 /*
  * Enciphers one block and writes the 16 bytes of the ciphertext to out.
- * Refuses 1 (key length), then 7 (block length).
+ * Refuses 34 (schedule), 1 (key length), then 7 (block length).
  */
-uint32_t bowlinette_encipher(const uint8_t *key, size_t key_length,
+uint32_t bowlinette_encipher(uint8_t schedule,
+                             const uint8_t *key, size_t key_length,
                              const uint8_t *block, size_t block_length,
                              uint8_t *out);
 
 /*
  * Deciphers one block and writes the 16 bytes of the plaintext to out.
- * Refuses 1 (key length), then 7 (block length).
+ * Refuses 34 (schedule), 1 (key length), then 7 (block length).
  */
-uint32_t bowlinette_decipher(const uint8_t *key, size_t key_length,
+uint32_t bowlinette_decipher(uint8_t schedule,
+                             const uint8_t *key, size_t key_length,
                              const uint8_t *block, size_t block_length,
                              uint8_t *out);
 
 /*
  * Takes one block through the first rounds of enciphering and writes the 16 bytes that stand after
  * them to out. With 0 rounds that is the block; a count above the key's rounds means all of them.
- * Refuses 1 (key length), then 7 (block length).
+ * Refuses 34 (schedule), 1 (key length), then 7 (block length).
  */
-uint32_t bowlinette_first_rounds(const uint8_t *key, size_t key_length,
+uint32_t bowlinette_first_rounds(uint8_t schedule,
+                                 const uint8_t *key, size_t key_length,
                                  size_t rounds,
                                  const uint8_t *block, size_t block_length,
                                  uint8_t *out);
@@ -240,9 +255,10 @@ uint32_t bowlinette_first_rounds(const uint8_t *key, size_t key_length,
 /*
  * Writes the six round keys of one round to row, in the order in which the round uses them. Rounds
  * count from 0; the number given is taken mod the key's rounds.
- * Refuses 1 (key length).
+ * Refuses 34 (schedule), then 1 (key length).
  */
-uint32_t bowlinette_round_keys(const uint8_t *key, size_t key_length,
+uint32_t bowlinette_round_keys(uint8_t schedule,
+                               const uint8_t *key, size_t key_length,
                                size_t round,
                                uint32_t *row);
 
@@ -298,32 +314,36 @@ uint32_t bowlinette_make_reading_chain(size_t key_length,
                                        uint64_t *drawn);
 
 /*
- * Builds the book of a key and a chain and writes it to the front of out, which may be longer: the
- * bytes after the book stay as they were. The chain and the book have the lengths above. The book's first
- * byte is the length of the key.
- * Refuses 1 (key length), 2 to 5 (the chain), then 9 (out shorter than the book).
+ * Builds the book of a key, by a schedule, and of a chain, and writes it to the front of out, which may be
+ * longer: the bytes after the book stay as they were. The chain and the book have the lengths above. The book's
+ * first byte is the length of the key.
+ * Refuses 34 (schedule), 1 (key length), 2 to 5 (the chain), then 9 (out shorter than the book).
  */
-uint32_t bowlinette_build(const uint8_t *key, size_t key_length,
+uint32_t bowlinette_build(uint8_t schedule,
+                          const uint8_t *key, size_t key_length,
                           const uint8_t *chain, size_t chain_length,
                           uint8_t *out, size_t out_length);
 
 /*
  * Builds the tables of one round of that book alone, 18,432 bytes, and writes them to the front of
  * out. Rounds count from 0; the number given is taken mod the key's rounds.
- * Refuses 1 (key length), 2 to 5 (the chain), then 9 (out shorter than the tables).
+ * Refuses 34 (schedule), 1 (key length), 2 to 5 (the chain), then 9 (out shorter than the tables).
  */
-uint32_t bowlinette_build_round(const uint8_t *key, size_t key_length,
+uint32_t bowlinette_build_round(uint8_t schedule,
+                                const uint8_t *key, size_t key_length,
                                 const uint8_t *chain, size_t chain_length,
                                 size_t round,
                                 uint8_t *out, size_t out_length);
 
 /*
  * Builds the reading book of a key and a reading chain and writes it to the front of out, which may be
- * longer: the bytes after the book stay as they were. It reads what the book of the same key seals whose
- * chain's last set is the reading chain's set 0.
- * Refuses 1 (key length), 2 to 5 (the reading chain), then 9 (out shorter than the reading book).
+ * longer: the bytes after the book stay as they were. It reads what the book of the same schedule and key seals
+ * whose chain's last set is the reading chain's set 0.
+ * Refuses 34 (schedule), 1 (key length), 2 to 5 (the reading chain), then 9 (out shorter than the reading
+ * book).
  */
-uint32_t bowlinette_build_reading(const uint8_t *key, size_t key_length,
+uint32_t bowlinette_build_reading(uint8_t schedule,
+                                  const uint8_t *key, size_t key_length,
                                   const uint8_t *chain, size_t chain_length,
                                   uint8_t *out, size_t out_length);
 
@@ -441,16 +461,18 @@ uint32_t bowlinette_last_call(bowlinette_session *session,
                               uint8_t *tag);
 
 /*
- * The functions below have the key, and set, the chain's set of number r, the last of its sets.
+ * The functions below have the schedule that the book was built by, the key, and set, the chain's set of
+ * number r, the last of its sets.
  *
  * Opens a sealed message: decodes the IV and the blocks by the set, deciphers them, takes the padding
  * off and writes the message to the front of out: the bytes after it stay as they were. How many were
  * written goes to length.
- * Refuses 1 (key length), 2 (length of the set), 3 (its permutations), 7 (IV length), 8 (sealed empty,
- * over 1,048,576 bytes or no multiple of 16), 9 (out shorter than sealed), then 11 (padding: its last
+ * Refuses 34 (schedule), 1 (key length), 2 (length of the set), 3 (its permutations), 7 (IV length), 8 (sealed
+ * empty, over 1,048,576 bytes or no multiple of 16), 9 (out shorter than sealed), then 11 (padding: its last
  * byte v is not 1 to 16, or the last v bytes are not all v).
  */
-uint32_t bowlinette_open(const uint8_t *key, size_t key_length,
+uint32_t bowlinette_open(uint8_t schedule,
+                         const uint8_t *key, size_t key_length,
                          const uint8_t *set, size_t set_length,
                          const uint8_t *iv, size_t iv_length,
                          const uint8_t *sealed, size_t sealed_length,
@@ -460,12 +482,13 @@ uint32_t bowlinette_open(const uint8_t *key, size_t key_length,
 /*
  * Checks a tag: whether, decoded by the set, it is the CMAC of the message, which is given plain. The
  * answer, valid or invalid, goes to valid.
- * Refuses 1 (key length), 2 (length of the set), 3 (its permutations), 7 (tag length), then 8 (message
- * too long).
+ * Refuses 34 (schedule), 1 (key length), 2 (length of the set), 3 (its permutations), 7 (tag length), then 8
+ * (message too long).
  * TAKE CARE: 0 is returned for an invalid tag too, and a refusal leaves valid as it was. A program that
  * lets something go by a tag asks bowlinette_is_valid instead.
  */
-uint32_t bowlinette_check(const uint8_t *key, size_t key_length,
+uint32_t bowlinette_check(uint8_t schedule,
+                          const uint8_t *key, size_t key_length,
                           const uint8_t *set, size_t set_length,
                           const uint8_t *message, size_t message_length,
                           const uint8_t *tag, size_t tag_length,
@@ -475,7 +498,8 @@ uint32_t bowlinette_check(const uint8_t *key, size_t key_length,
  * The same in one word: 1 only if the tag is valid, 0 if it is invalid and where bowlinette_check would
  * refuse.
  */
-uint32_t bowlinette_is_valid(const uint8_t *key, size_t key_length,
+uint32_t bowlinette_is_valid(uint8_t schedule,
+                             const uint8_t *key, size_t key_length,
                              const uint8_t *set, size_t set_length,
                              const uint8_t *message, size_t message_length,
                              const uint8_t *tag, size_t tag_length);

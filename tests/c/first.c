@@ -3,7 +3,7 @@
 #include <stdio.h>
 #include <stdlib.h>
 
-enum { BLOCK = BOWLINETTE_BLOCK_LENGTH, SET = BOWLINETTE_SET_LENGTH };
+enum { LEA = BOWLINETTE_SCHEDULE_LEA, BLOCK = BOWLINETTE_BLOCK_LENGTH, SET = BOWLINETTE_SET_LENGTH };
 
 static uint8_t chain[BOWLINETTE_CHAIN_LENGTH_128], book[BOWLINETTE_BOOK_LENGTH_128], noise[BOWLINETTE_RANDOM_LENGTH_128];
 
@@ -39,11 +39,11 @@ int main(void)
     bowlinette_ink ink;
     uint64_t n;
 
-    /* the works, which has the key and makes the chain; the book's first byte states the key's length */
+    /* the works, which has the key, by LEA's schedule, and makes the chain; the book's first byte states the key's length */
     random_bytes(key, sizeof key);
     random_bytes(noise, sizeof noise);
     done("make chain", bowlinette_make_chain(sizeof key, noise, sizeof noise, chain, sizeof chain, &n));
-    done("build", bowlinette_build(key, sizeof key, chain, sizeof chain, book, sizeof book));
+    done("build", bowlinette_build(LEA, key, sizeof key, chain, sizeof chain, book, sizeof book));
 
     /* the pad codes for sealing, which has the message set; the teller's PC seals, which has the book */
     random_bytes(iv, sizeof iv);
@@ -59,10 +59,10 @@ int main(void)
     done("write ink", bowlinette_write_ink(number, sizeof number, iv, BLOCK, sealed, BLOCK, tag, BLOCK, kinds, sizeof kinds, remark, sizeof remark,
                                            remark, 0, remark, 0, remark, 0, file, sizeof file, &n));
 
-    /* the archive, which has the key and the last set */
+    /* the archive, which has the key, by the same schedule, and the last set */
     done("read ink", bowlinette_read_ink(file, n, (uint64_t *)&ink));
-    done("open", bowlinette_open(key, sizeof key, last, SET, file + ink.iv, BLOCK, file + ink.sealed, ink.sealed_length, opened, sizeof opened, &n));
-    if (!bowlinette_is_valid(key, sizeof key, last, SET, opened, n, file + ink.tag, BLOCK)) {
+    done("open", bowlinette_open(LEA, key, sizeof key, last, SET, file + ink.iv, BLOCK, file + ink.sealed, ink.sealed_length, opened, sizeof opened, &n));
+    if (!bowlinette_is_valid(LEA, key, sizeof key, last, SET, opened, n, file + ink.tag, BLOCK)) {
         fprintf(stderr, "the tag is not valid\n");
         return 1;
     }

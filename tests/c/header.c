@@ -111,26 +111,38 @@ static void driver(void)
     printf(" %d\n", bowlinette_begin(&session, book, length - 1) == BOWLINETTE_REFUSED_BOOK_LENGTH);
 }
 
-/* A reading book of identity codings, which deciphers, and two blocks read by it. */
-static void reading(const uint8_t *key, size_t length)
+/* A chain of identity codings, of both kinds; its middle codings come last. */
+static uint8_t identities[BOWLINETTE_CHAIN_LENGTH_256];
+
+static void reading_chain(void)
 {
-    static uint8_t chain[BOWLINETTE_CHAIN_LENGTH_256], book[BOWLINETTE_READING_LENGTH_256];
-    uint8_t sealed[2 * BOWLINETTE_BLOCK_LENGTH], out[2 * BOWLINETTE_BLOCK_LENGTH] = {0};
-    const size_t one = BOWLINETTE_BLOCK_LENGTH, rounds = BOWLINETTE_ROUNDS_256;
-    uint64_t written = 0;
+    const size_t rounds = BOWLINETTE_ROUNDS_256, key = BOWLINETTE_KEY_LENGTH_256;
     uint32_t number;
     size_t i, l;
 
     for (i = 0; i < BOWLINETTE_CHAIN_ROUND(rounds, 0); i++)
-        chain[i] = (uint8_t)(i % BOWLINETTE_CODING_LENGTH);
-    printf("%d", bowlinette_check_reading_chain(length, chain, sizeof chain) == BOWLINETTE_REFUSED_NO_PERMUTATION);
+        identities[i] = (uint8_t)(i % BOWLINETTE_CODING_LENGTH);
+    number = bowlinette_check_reading_chain(key, identities, sizeof identities);
+    printf("%d", number == BOWLINETTE_REFUSED_NO_PERMUTATION);
     for (l = 0; l < rounds; l++)
         for (i = 0; i < BOWLINETTE_ROUND_MASKS; i++)
-            chain[BOWLINETTE_CHAIN_ROUND(rounds, l) + i] = (uint8_t)(i % BOWLINETTE_CODING_LENGTH);
-    printf(" %d", bowlinette_check_reading_chain(length, chain, sizeof chain) == BOWLINETTE_DONE);
-    number = bowlinette_build_reading(key, length, chain, sizeof chain, book, sizeof book - 1);
-    printf(" %d", number == BOWLINETTE_REFUSED_ROOM);
-    number = bowlinette_build_reading(key, length, chain, sizeof chain, book, sizeof book);
+            identities[BOWLINETTE_CHAIN_ROUND(rounds, l) + i] = (uint8_t)(i % BOWLINETTE_CODING_LENGTH);
+    printf(" %d\n", bowlinette_check_reading_chain(key, identities, sizeof identities) == BOWLINETTE_DONE);
+}
+
+/* A reading book of identity codings, which deciphers, and two blocks read by it. */
+static void reading(uint8_t schedule, const uint8_t *key, size_t length)
+{
+    static uint8_t book[BOWLINETTE_READING_LENGTH_256];
+    uint8_t sealed[2 * BOWLINETTE_BLOCK_LENGTH], out[2 * BOWLINETTE_BLOCK_LENGTH] = {0};
+    const size_t one = BOWLINETTE_BLOCK_LENGTH;
+    uint64_t written = 0;
+    uint32_t number;
+    size_t i;
+
+    number = bowlinette_build_reading(schedule, key, length, identities, sizeof identities, book, sizeof book - 1);
+    printf("%d", number == BOWLINETTE_REFUSED_ROOM);
+    number = bowlinette_build_reading(schedule, key, length, identities, sizeof identities, book, sizeof book);
     printf(" %d\n", number == BOWLINETTE_DONE);
     for (i = 0; i < sizeof sealed; i++)
         sealed[i] = (uint8_t)(13 * i);
@@ -141,20 +153,20 @@ static void reading(const uint8_t *key, size_t length)
 }
 
 /* CMAC of a message of one block, from its definition. */
-static void cmac_of_one_block(const uint8_t *key, size_t length, const uint8_t *message, uint8_t *tag)
+static void cmac_of_one_block(uint8_t schedule, const uint8_t *key, size_t length, const uint8_t *message, uint8_t *tag)
 {
     uint8_t x[BOWLINETTE_BLOCK_LENGTH] = {0}, k[BOWLINETTE_BLOCK_LENGTH + 1] = {0};
     size_t i;
 
-    bowlinette_encipher(key, length, x, sizeof x, k);
+    bowlinette_encipher(schedule, key, length, x, sizeof x, k);
     for (i = 0; i < sizeof x; i++)
         x[i] = (uint8_t)(message[i] ^ k[i] << 1 ^ k[i + 1] >> 7);
     x[sizeof x - 1] ^= k[0] >> 7 ? 0x87 : 0;
-    bowlinette_encipher(key, length, x, sizeof x, tag);
+    bowlinette_encipher(schedule, key, length, x, sizeof x, tag);
 }
 
 /* Bytes opened, and a message checked beside its tag and another, by identity codings. */
-static void archive(const uint8_t *key, size_t length)
+static void archive(uint8_t schedule, const uint8_t *key, size_t length)
 {
     static const uint8_t message[BOWLINETTE_BLOCK_LENGTH] = "in ink";
     uint8_t set[BOWLINETTE_SET_LENGTH], sealed[BOWLINETTE_BLOCK_LENGTH], iv[BOWLINETTE_BLOCK_LENGTH] = {0};
@@ -168,20 +180,20 @@ static void archive(const uint8_t *key, size_t length)
         set[i] = (uint8_t)(i % BOWLINETTE_CODING_LENGTH);
     for (i = 0; i < one; i++)
         tag[i] = i < 6 ? message[i] : 10;
-    bowlinette_encipher(key, length, tag, one, sealed);
-    show(bowlinette_open(key, length, set, sizeof set, iv, one, sealed, one, out, one, &written), out);
+    bowlinette_encipher(schedule, key, length, tag, one, sealed);
+    show(bowlinette_open(schedule, key, length, set, sizeof set, iv, one, sealed, one, out, one, &written), out);
     printf("%d", written == 6);
     iv[one - 1] ^= 1;
-    number = bowlinette_open(key, length, set, sizeof set, iv, one, sealed, one, out, one, &written);
+    number = bowlinette_open(schedule, key, length, set, sizeof set, iv, one, sealed, one, out, one, &written);
     printf(" %d", number == BOWLINETTE_REFUSED_PADDING);
-    number = bowlinette_open(key, length, set, sizeof set, iv, one, sealed, one, out, one - 1, &written);
+    number = bowlinette_open(schedule, key, length, set, sizeof set, iv, one, sealed, one, out, one - 1, &written);
     printf(" %d\n", number == BOWLINETTE_REFUSED_ROOM);
-    cmac_of_one_block(key, length, message, tag);
-    number = bowlinette_check(key, length, set, sizeof set, message, one, tag, one, &valid);
+    cmac_of_one_block(schedule, key, length, message, tag);
+    number = bowlinette_check(schedule, key, length, set, sizeof set, message, one, tag, one, &valid);
     printf("%d %d", number == BOWLINETTE_DONE, valid == BOWLINETTE_VALID);
-    number = bowlinette_check(key, length, set, sizeof set, message, one - 1, tag, one, &valid);
+    number = bowlinette_check(schedule, key, length, set, sizeof set, message, one - 1, tag, one, &valid);
     printf(" %d %d", number == BOWLINETTE_DONE, valid == BOWLINETTE_INVALID);
-    number = bowlinette_check(key, length, set, sizeof set, message, one, tag, one - 1, &valid);
+    number = bowlinette_check(schedule, key, length, set, sizeof set, message, one, tag, one - 1, &valid);
     printf(" %d\n", number == BOWLINETTE_REFUSED_BLOCK_LENGTH);
 }
 
@@ -214,41 +226,52 @@ static void ink_file(void)
     printf(" %d\n", number == BOWLINETTE_REFUSED_ROOM);
 }
 
+/* A block enciphered, deciphered and taken through five rounds, the row of round 3, and refused. */
+static void cipher(uint8_t schedule, const uint8_t *key, size_t length)
+{
+    uint8_t block[BOWLINETTE_BLOCK_LENGTH + 1], out[BOWLINETTE_BLOCK_LENGTH] = {0};
+    const size_t one = BOWLINETTE_BLOCK_LENGTH;
+    uint32_t row[BOWLINETTE_ROW_WORDS], number;
+    size_t i;
+
+    for (i = 0; i < sizeof block; i++)
+        block[i] = (uint8_t)(11 * i);
+    show(bowlinette_encipher(schedule, key, length, block, one, out), out);
+    show(bowlinette_decipher(schedule, key, length, block, one, out), out);
+    show(bowlinette_first_rounds(schedule, key, length, 5, block, one, out), out);
+    number = bowlinette_round_keys(schedule, key, length, 3, row);
+    printf("%d", number == BOWLINETTE_DONE);
+    for (i = 0; i < BOWLINETTE_ROW_WORDS; i++)
+        printf(" %08lx", (unsigned long)row[i]);
+    number = bowlinette_encipher(schedule, key, length, block, sizeof block, out);
+    printf("\n%d", number == BOWLINETTE_REFUSED_BLOCK_LENGTH);
+    number = bowlinette_encipher(schedule, key, length - 1, block, sizeof block, out);
+    printf(" %d", number == BOWLINETTE_REFUSED_KEY_LENGTH);
+    number = bowlinette_encipher((uint8_t)(schedule + 2), key, length - 1, block, sizeof block, out);
+    printf(" %d\n", number == BOWLINETTE_REFUSED_SCHEDULE);
+}
+
 int main(void)
 {
-    uint8_t key[BOWLINETTE_KEY_LENGTH_256], block[BOWLINETTE_BLOCK_LENGTH + 1];
-    uint8_t out[BOWLINETTE_BLOCK_LENGTH] = {0};
-    uint32_t row[BOWLINETTE_ROW_WORDS], number;
+    static const uint8_t schedules[] = {BOWLINETTE_SCHEDULE_LEA, BOWLINETTE_SCHEDULE_WF_LEA};
+    uint8_t key[BOWLINETTE_KEY_LENGTH_256];
     size_t i;
 
     for (i = 0; i < sizeof key; i++)
         key[i] = (uint8_t)(7 * i);
-    for (i = 0; i < sizeof block; i++)
-        block[i] = (uint8_t)(11 * i);
     SIZE(128);
     SIZE(192);
     SIZE(256);
-    number = bowlinette_encipher(key, sizeof key, block, 16, out);
-    show(number, out);
-    number = bowlinette_decipher(key, sizeof key, block, 16, out);
-    show(number, out);
-    number = bowlinette_first_rounds(key, sizeof key, 5, block, 16, out);
-    show(number, out);
-    number = bowlinette_encipher(key, sizeof key, block, sizeof block, out);
-    printf("%d\n", number == BOWLINETTE_REFUSED_BLOCK_LENGTH);
-    number = bowlinette_encipher(key, sizeof key - 1, block, sizeof block, out);
-    printf("%d\n", number == BOWLINETTE_REFUSED_KEY_LENGTH);
-    number = bowlinette_round_keys(key, sizeof key, 3, row);
-    printf("%d", number == BOWLINETTE_DONE);
-    for (i = 0; i < BOWLINETTE_ROW_WORDS; i++)
-        printf(" %08lx", (unsigned long)row[i]);
-    printf("\n");
     checks();
     chains();
     codes();
     driver();
-    reading(key, sizeof key);
-    archive(key, sizeof key);
+    reading_chain();
+    for (i = 0; i < sizeof schedules; i++) {
+        cipher(schedules[i], key, sizeof key);
+        reading(schedules[i], key, sizeof key);
+        archive(schedules[i], key, sizeof key);
+    }
     ink_file();
     return 0;
 }

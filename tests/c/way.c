@@ -1,7 +1,7 @@
 /*
- * The C library as a bank's programs would use it: for each key size chains are made, and a message goes
- * the whole way from the pad over the driver to a reader and, in an ink file, to the archive; and every
- * function is made to give each of its refusals. After a refusal nothing that was lent may have changed;
+ * The C library as a bank's programs would use it: for each key size chains are made, and by each schedule a
+ * message goes the whole way from the pad over the driver to a reader and, in an ink file, to the archive; and
+ * every function is made to give each of its refusals. After a refusal nothing that was lent may have changed;
  * after a success nothing after what is written.
  * Prints how many checks there were and how many of them failed.
  */
@@ -73,6 +73,8 @@ static const struct size {
     size_t key, rounds, chain, book, reading, folds, random;
 } sizes[] = {SIZE(128), SIZE(192), SIZE(256)};
 
+/* The schedule that everything goes by. */
+static uint8_t schedule;
 static uint8_t key[32], chain[BOWLINETTE_CHAIN_LENGTH_256 + 1], book[BOWLINETTE_BOOK_LENGTH_256 + BLOCK];
 static uint8_t reading_chain[BOWLINETTE_CHAIN_LENGTH_256 + 1], reading[BOWLINETTE_READING_LENGTH_256 + BLOCK];
 static uint8_t noise[BOWLINETTE_RANDOM_LENGTH_256];
@@ -178,10 +180,10 @@ static void works(const struct size *s)
     CHECK(bowlinette_check_chain(s->key, chain, s->chain) == BOWLINETTE_DONE);
     CHECK(bowlinette_check_set(chain, SET) == BOWLINETTE_DONE);
     memset(book, FILL, sizeof book);
-    CHECK(bowlinette_build(key, s->key, chain, s->chain, book, sizeof book) == BOWLINETTE_DONE);
+    CHECK(bowlinette_build(schedule, key, s->key, chain, s->chain, book, sizeof book) == BOWLINETTE_DONE);
     CHECK(book[BOWLINETTE_BOOK_SIZE_BYTE] == s->key && book[s->book] == FILL);
     fresh();
-    CHECK(bowlinette_build_round(key, s->key, chain, s->chain, s->rounds + 1, room.bytes, sizeof room.bytes) == BOWLINETTE_DONE);
+    CHECK(bowlinette_build_round(schedule, key, s->key, chain, s->chain, s->rounds + 1, room.bytes, sizeof room.bytes) == BOWLINETTE_DONE);
     CHECK(untouched(BOWLINETTE_ROUND_LENGTH));
     CHECK(memcmp(room.bytes, book + s->book - BOWLINETTE_ROUND_LENGTH * (s->rounds - 1), BOWLINETTE_ROUND_LENGTH) == 0);
 }
@@ -213,7 +215,7 @@ static void works_for_reading(const struct size *s)
     CHECK(bowlinette_check_reading_chain(s->key, chain, s->chain) == BOWLINETTE_REFUSED_WORD_RULE);
     CHECK(bowlinette_check_chain(s->key, reading_chain, s->chain) == BOWLINETTE_REFUSED_WORD_RULE);
     memset(reading, FILL, sizeof reading);
-    CHECK(bowlinette_build_reading(key, s->key, reading_chain, s->chain, reading, sizeof reading) == BOWLINETTE_DONE);
+    CHECK(bowlinette_build_reading(schedule, key, s->key, reading_chain, s->chain, reading, sizeof reading) == BOWLINETTE_DONE);
     CHECK(reading[s->reading] == FILL);
     for (l = 0; l < s->rounds; l++) {
         const size_t subtracts = BOWLINETTE_READING_ROUND(l) + BOWLINETTE_READING_SUBTRACTS;
@@ -263,7 +265,7 @@ static void turn_top_carries(uint8_t *tables, size_t r)
 }
 
 /* Building a book or a reading book; sealing or reading by it. */
-typedef uint32_t building(const uint8_t *, size_t, const uint8_t *, size_t, uint8_t *, size_t);
+typedef uint32_t building(uint8_t, const uint8_t *, size_t, const uint8_t *, size_t, uint8_t *, size_t);
 typedef uint32_t passing(const uint8_t *, size_t, const uint8_t *, size_t, const uint8_t *, size_t, uint8_t *, size_t, uint64_t *);
 
 /*
@@ -277,7 +279,7 @@ static void top_masks(const struct size *s, uint8_t *codings, uint8_t *of, size_
 
     CHECK(pass(of, n, iv, BLOCK, noise, sizeof before, before, sizeof before, &length) == BOWLINETTE_DONE);
     turn_top_masks(codings, s->rounds);
-    CHECK(build(key, s->key, codings, s->chain, room.bytes, n) == BOWLINETTE_DONE);
+    CHECK(build(schedule, key, s->key, codings, s->chain, room.bytes, n) == BOWLINETTE_DONE);
     turn_top_carries(of + place, s->rounds);
     CHECK(memcmp(room.bytes, of, n) == 0);
     CHECK(pass(of, n, iv, BLOCK, noise, sizeof after, after, sizeof after, &length) == BOWLINETTE_DONE);
@@ -316,9 +318,9 @@ static void ink_file(const struct size *s, size_t n)
     CHECK(ink.lengths[1] == 0 && ink.offsets[1] == length);
     CHECK(ink.kinds[2] + ink.kinds[3] + ink.offsets[2] + ink.offsets[3] + ink.lengths[2] + ink.lengths[3] == 0);
     fresh();
-    CHECK(bowlinette_open(key, s->key, set, SET, file + ink.iv, BLOCK, file + ink.sealed, ink.sealed_length, room.bytes, sizeof room.bytes, &length) == BOWLINETTE_DONE);
+    CHECK(bowlinette_open(schedule, key, s->key, set, SET, file + ink.iv, BLOCK, file + ink.sealed, ink.sealed_length, room.bytes, sizeof room.bytes, &length) == BOWLINETTE_DONE);
     CHECK(length == n && memcmp(room.bytes, message, n) == 0);
-    CHECK(bowlinette_is_valid(key, s->key, set, SET, room.bytes, length, file + ink.tag, BLOCK) == 1);
+    CHECK(bowlinette_is_valid(schedule, key, s->key, set, SET, room.bytes, length, file + ink.tag, BLOCK) == 1);
 }
 
 /* What was sealed opens to the message, and its tag is valid; one bit less is not. */
@@ -328,15 +330,16 @@ static void archive(const struct size *s, size_t n)
     uint8_t verdict = FILL;
 
     fresh();
-    CHECK(bowlinette_open(key, s->key, set, SET, iv, BLOCK, sealed, sealed_length, room.bytes, sizeof room.bytes, &sealed_length) == BOWLINETTE_DONE);
+    CHECK(bowlinette_open(schedule, key, s->key, set, SET, iv, BLOCK, sealed, sealed_length, room.bytes, sizeof room.bytes, &sealed_length) == BOWLINETTE_DONE);
     CHECK(sealed_length == n && memcmp(room.bytes, message, n) == 0 && untouched(n));
-    CHECK(bowlinette_check(key, s->key, set, SET, message, n, tag, BLOCK, &verdict) == BOWLINETTE_DONE);
+    CHECK(bowlinette_check(schedule, key, s->key, set, SET, message, n, tag, BLOCK, &verdict) == BOWLINETTE_DONE);
     CHECK(verdict == BOWLINETTE_VALID);
-    CHECK(bowlinette_is_valid(key, s->key, set, SET, message, n, tag, BLOCK) == 1);
+    CHECK(bowlinette_is_valid(schedule, key, s->key, set, SET, message, n, tag, BLOCK) == 1);
+    CHECK(bowlinette_is_valid(!schedule, key, s->key, set, SET, message, n, tag, BLOCK) == 0);
     tag[n % BLOCK] ^= 0x10;
-    CHECK(bowlinette_check(key, s->key, set, SET, message, n, tag, BLOCK, &verdict) == BOWLINETTE_DONE);
+    CHECK(bowlinette_check(schedule, key, s->key, set, SET, message, n, tag, BLOCK, &verdict) == BOWLINETTE_DONE);
     CHECK(verdict == BOWLINETTE_INVALID);
-    CHECK(bowlinette_is_valid(key, s->key, set, SET, message, n, tag, BLOCK) == 0);
+    CHECK(bowlinette_is_valid(schedule, key, s->key, set, SET, message, n, tag, BLOCK) == 0);
 }
 
 /* The offsets of the header lead to the ends of a chain and of both books, and to the last set. */
@@ -366,7 +369,7 @@ static void version(void)
 /* Every number has a sentence of its own, and a number that is none says so. */
 static void texts(void)
 {
-    static const uint32_t numbers[] = {0, 1, 2, 3, 4, 5, 6, 7, 8, 9, 10, 11, 21, 22, 30, 31, 32, 33, 99};
+    static const uint32_t numbers[] = {0, 1, 2, 3, 4, 5, 6, 7, 8, 9, 10, 11, 21, 22, 30, 31, 32, 33, 34, 99};
     size_t i, k;
 
     for (i = 0; i < sizeof numbers / sizeof numbers[0]; i++)
@@ -378,36 +381,90 @@ static void texts(void)
     CHECK(BOWLINETTE_CHAIN_LAST_SET_256 == BOWLINETTE_CHAIN_SET(BOWLINETTE_ROUNDS_256));
 }
 
-/* A block through LEA and back, and through the tables of a book. */
+/* A block through the cipher and back, and through the tables of a book. */
 static void blocks(const struct size *s)
 {
     uint8_t there[BLOCK], back[BLOCK], first[BLOCK], next[BLOCK];
     uint32_t row[BOWLINETTE_ROW_WORDS];
 
-    CHECK(bowlinette_encipher(key, s->key, iv, BLOCK, there) == BOWLINETTE_DONE);
-    CHECK(bowlinette_decipher(key, s->key, there, BLOCK, back) == BOWLINETTE_DONE);
+    CHECK(bowlinette_encipher(schedule, key, s->key, iv, BLOCK, there) == BOWLINETTE_DONE);
+    CHECK(bowlinette_decipher(schedule, key, s->key, there, BLOCK, back) == BOWLINETTE_DONE);
     CHECK(memcmp(back, iv, BLOCK) == 0);
-    CHECK(bowlinette_first_rounds(key, s->key, s->rounds, iv, BLOCK, back) == BOWLINETTE_DONE);
+    CHECK(bowlinette_first_rounds(schedule, key, s->key, s->rounds, iv, BLOCK, back) == BOWLINETTE_DONE);
     CHECK(memcmp(back, there, BLOCK) == 0);
-    CHECK(bowlinette_round_keys(key, s->key, 0, row) == BOWLINETTE_DONE);
+    CHECK(bowlinette_round_keys(schedule, key, s->key, 0, row) == BOWLINETTE_DONE);
     CHECK(bowlinette_run_rounds(book, s->book, 1, iv, BLOCK, first) == BOWLINETTE_DONE);
     CHECK(bowlinette_run_rounds(book, s->book, 2, iv, BLOCK, next) == BOWLINETTE_DONE);
     CHECK(bowlinette_run_round(book + s->book - BOWLINETTE_ROUND_LENGTH * (s->rounds - 1), BOWLINETTE_ROUND_LENGTH, first, BLOCK, back) == BOWLINETTE_DONE);
     CHECK(memcmp(back, next, BLOCK) == 0);
 }
 
-/* Refusals 1 and 7 of LEA on one block. */
+/* Document 000's first example, and the row that it begins with. */
+static void the_example_of_wf_lea(void)
+{
+    static const uint8_t its_key[] = {0x9c, 0xc4, 0xea, 0x59, 0x4b, 0x85, 0xf8, 0x15, 0x7e, 0xe0, 0xd1, 0x82, 0xe9, 0x9d, 0x4a, 0x1b};
+    static const uint8_t plain[] = {0x06, 0xe3, 0x1c, 0x77, 0x6e, 0xcf, 0x1d, 0x36, 0xac, 0x1c, 0xcc, 0x10, 0x68, 0x54, 0xf7, 0x4e};
+    static const uint8_t due[] = {0x27, 0x4d, 0x26, 0x84, 0xce, 0x28, 0xcf, 0x24, 0x91, 0xfd, 0xf0, 0xac, 0x29, 0x80, 0x07, 0x0a};
+    static const uint32_t row_due[] = {0xd3ef4242, 0xed7deb80, 0xffe83ccb, 0x3df18824, 0xd0b1bc7b, 0x15c2ba3f};
+    uint32_t row[BOWLINETTE_ROW_WORDS];
+    uint8_t out[BLOCK];
+
+    CHECK(bowlinette_encipher(BOWLINETTE_SCHEDULE_WF_LEA, its_key, sizeof its_key, plain, BLOCK, out) == BOWLINETTE_DONE);
+    CHECK(memcmp(out, due, BLOCK) == 0);
+    CHECK(bowlinette_decipher(BOWLINETTE_SCHEDULE_WF_LEA, its_key, sizeof its_key, due, BLOCK, out) == BOWLINETTE_DONE);
+    CHECK(memcmp(out, plain, BLOCK) == 0);
+    CHECK(bowlinette_round_keys(BOWLINETTE_SCHEDULE_WF_LEA, its_key, sizeof its_key, 0, row) == BOWLINETTE_DONE);
+    CHECK(memcmp(row, row_due, sizeof row) == 0);
+}
+
+/* Every function with a key refuses a schedule that is none before all else, be the rest right or not. */
+static void schedule_refused(const struct size *s, uint8_t number, size_t n, size_t out)
+{
+    const uint8_t *set = chain + BOWLINETTE_CHAIN_SET(s->rounds);
+    uint32_t row[BOWLINETTE_ROW_WORDS] = {1, 2, 3, 4, 5, 6};
+
+    REFUSED(34, bowlinette_encipher(number, key, n, iv, out, room.bytes));
+    REFUSED(34, bowlinette_decipher(number, key, n, iv, out, room.bytes));
+    REFUSED(34, bowlinette_first_rounds(number, key, n, 3, iv, out, room.bytes));
+    REFUSED(34, bowlinette_round_keys(number, key, n, 3, row));
+    CHECK(row[0] == 1 && row[5] == 6);
+    REFUSED(34, bowlinette_build(number, key, n, chain, s->chain, room.bytes, s->book));
+    REFUSED(34, bowlinette_build(number, key, n, message, out, room.bytes, 0));
+    REFUSED(34, bowlinette_build_round(number, key, n, chain, s->chain, 3, room.bytes, s->book));
+    REFUSED(34, bowlinette_build_round(number, key, n, message, out, 3, room.bytes, 0));
+    REFUSED(34, bowlinette_build_reading(number, key, n, reading_chain, s->chain, room.bytes, s->reading));
+    REFUSED(34, bowlinette_build_reading(number, key, n, message, out, room.bytes, 0));
+    REFUSED(34, bowlinette_open(number, key, n, set, SET, iv, out, sealed, BLOCK, room.bytes, BLOCK, &room.length));
+    REFUSED(34, bowlinette_open(number, key, n, message, out, iv, out, sealed, 0, room.bytes, 0, &room.length));
+    REFUSED(34, bowlinette_check(number, key, n, set, SET, message, INK, tag, out, &room.small));
+    REFUSED(34, bowlinette_check(number, key, n, message, out, message, LONGEST + 1, tag, 0, &room.small));
+    CHECK(bowlinette_is_valid(number, key, n, set, SET, message, INK, tag, out) == 0);
+}
+
+/* Refusal 34, with its neighbours. */
+static void refusals_of_the_schedule(const struct size *s)
+{
+    static const uint8_t numbers[] = {2, 3, 127, 128, 254, 255};
+    size_t i;
+
+    for (i = 0; i < sizeof numbers; i++) {
+        schedule_refused(s, numbers[i], s->key, BLOCK);
+        schedule_refused(s, numbers[i], s->key + 1, BLOCK - 1);
+    }
+}
+
+/* Refusals 1 and 7 of the cipher on one block. */
 static void refusals_of_blocks(void)
 {
     uint32_t row[BOWLINETTE_ROW_WORDS] = {1, 2, 3, 4, 5, 6};
 
-    REFUSED(1, bowlinette_encipher(key, 17, iv, BLOCK, room.bytes));
-    REFUSED(7, bowlinette_encipher(key, 16, iv, BLOCK - 1, room.bytes));
-    REFUSED(1, bowlinette_decipher(key, 0, iv, BLOCK - 1, room.bytes));
-    REFUSED(7, bowlinette_decipher(key, 32, iv, 0, room.bytes));
-    REFUSED(1, bowlinette_first_rounds(key, 31, 3, iv, BLOCK, room.bytes));
-    REFUSED(7, bowlinette_first_rounds(key, 24, 3, iv, 1, room.bytes));
-    REFUSED(1, bowlinette_round_keys(key, 8, 0, row));
+    REFUSED(1, bowlinette_encipher(schedule, key, 17, iv, BLOCK, room.bytes));
+    REFUSED(7, bowlinette_encipher(schedule, key, 16, iv, BLOCK - 1, room.bytes));
+    REFUSED(1, bowlinette_decipher(schedule, key, 0, iv, BLOCK - 1, room.bytes));
+    REFUSED(7, bowlinette_decipher(schedule, key, 32, iv, 0, room.bytes));
+    REFUSED(1, bowlinette_first_rounds(schedule, key, 31, 3, iv, BLOCK, room.bytes));
+    REFUSED(7, bowlinette_first_rounds(schedule, key, 24, 3, iv, 1, room.bytes));
+    REFUSED(1, bowlinette_round_keys(schedule, key, 8, 0, row));
     CHECK(row[0] == 1 && row[5] == 6);
 }
 
@@ -450,8 +507,8 @@ static void chain_refused(const struct size *s, size_t at, uint8_t with, uint32_
 
     chain[at] = with;
     CHECK(bowlinette_check_chain(s->key, chain, s->chain) == number);
-    REFUSED(number, bowlinette_build(key, s->key, chain, s->chain, room.bytes, s->book));
-    REFUSED(number, bowlinette_build_round(key, s->key, chain, s->chain, 3, room.bytes, s->book));
+    REFUSED(number, bowlinette_build(schedule, key, s->key, chain, s->chain, room.bytes, s->book));
+    REFUSED(number, bowlinette_build_round(schedule, key, s->key, chain, s->chain, 3, room.bytes, s->book));
     chain[at] = was;
 }
 
@@ -466,10 +523,10 @@ static void refusals_of_the_works(const struct size *s)
     CHECK(bowlinette_check_set(message, SET) == 3);
     CHECK(bowlinette_check_chain(s->key + 1, chain, s->chain) == 1);
     CHECK(bowlinette_check_chain(s->key, chain, s->chain + 1) == 2);
-    REFUSED(1, bowlinette_build(key, s->key - 1, chain, s->chain, room.bytes, s->book));
-    REFUSED(1, bowlinette_build_round(key, s->key - 1, chain, s->chain, 0, room.bytes, s->book));
-    REFUSED(2, bowlinette_build(key, s->key, chain, s->chain - 1, room.bytes, s->book));
-    REFUSED(2, bowlinette_build_round(key, s->key, chain, s->chain - 1, 0, room.bytes, s->book));
+    REFUSED(1, bowlinette_build(schedule, key, s->key - 1, chain, s->chain, room.bytes, s->book));
+    REFUSED(1, bowlinette_build_round(schedule, key, s->key - 1, chain, s->chain, 0, room.bytes, s->book));
+    REFUSED(2, bowlinette_build(schedule, key, s->key, chain, s->chain - 1, room.bytes, s->book));
+    REFUSED(2, bowlinette_build_round(schedule, key, s->key, chain, s->chain - 1, 0, room.bytes, s->book));
     chain_refused(s, 0, 16, 3);
     chain_refused(s, 1, chain[0], 3);
     memcpy(word, chain + SET * 2 + 3 * SET / 4, sizeof word);
@@ -478,8 +535,8 @@ static void refusals_of_the_works(const struct size *s)
     memcpy(chain + SET * 2 + 3 * SET / 4, word, sizeof word);
     for (place = 0; place < 24; place++)
         chain_refused(s, masks + place, 2, 5);
-    REFUSED(9, bowlinette_build(key, s->key, chain, s->chain, room.bytes, s->book - 1));
-    REFUSED(9, bowlinette_build_round(key, s->key, chain, s->chain, 0, room.bytes, BOWLINETTE_ROUND_LENGTH - 1));
+    REFUSED(9, bowlinette_build(schedule, key, s->key, chain, s->chain, room.bytes, s->book - 1));
+    REFUSED(9, bowlinette_build_round(schedule, key, s->key, chain, s->chain, 0, room.bytes, BOWLINETTE_ROUND_LENGTH - 1));
 }
 
 /* A reading chain with one byte changed, likewise. */
@@ -489,7 +546,7 @@ static void reading_chain_refused(const struct size *s, size_t at, uint8_t with,
 
     reading_chain[at] = with;
     CHECK(bowlinette_check_reading_chain(s->key, reading_chain, s->chain) == number);
-    REFUSED(number, bowlinette_build_reading(key, s->key, reading_chain, s->chain, room.bytes, s->reading));
+    REFUSED(number, bowlinette_build_reading(schedule, key, s->key, reading_chain, s->chain, room.bytes, s->reading));
     reading_chain[at] = was;
 }
 
@@ -503,8 +560,8 @@ static void refusals_of_the_works_for_reading(const struct size *s)
 
     CHECK(bowlinette_check_reading_chain(s->key + 1, reading_chain, s->chain) == 1);
     CHECK(bowlinette_check_reading_chain(s->key, reading_chain, s->chain - 1) == 2);
-    REFUSED(1, bowlinette_build_reading(key, s->key - 1, reading_chain, s->chain, room.bytes, s->reading));
-    REFUSED(2, bowlinette_build_reading(key, s->key, reading_chain, s->chain + 1, room.bytes, s->reading));
+    REFUSED(1, bowlinette_build_reading(schedule, key, s->key - 1, reading_chain, s->chain, room.bytes, s->reading));
+    REFUSED(2, bowlinette_build_reading(schedule, key, s->key, reading_chain, s->chain + 1, room.bytes, s->reading));
     reading_chain_refused(s, 2, reading_chain[3], 3);
     reading_chain_refused(s, masks - 1, 255, 3);
     memcpy(was, word, sizeof was);
@@ -513,7 +570,7 @@ static void refusals_of_the_works_for_reading(const struct size *s)
     memcpy(word, was, sizeof was);
     for (place = 0; place < 24; place++)
         reading_chain_refused(s, masks + place, 2, 5);
-    REFUSED(9, bowlinette_build_reading(key, s->key, reading_chain, s->chain, room.bytes, s->reading - 1));
+    REFUSED(9, bowlinette_build_reading(schedule, key, s->key, reading_chain, s->chain, room.bytes, s->reading - 1));
 }
 
 /* Refusals 6 to 9 of reading. */
@@ -640,24 +697,24 @@ static void refusals_of_the_archive(const struct size *s)
     const uint8_t *set = chain + SET * (s->rounds + 1);
     const size_t n = 2 * BLOCK;
 
-    REFUSED(1, bowlinette_open(key, 20, set, SET, iv, BLOCK, sealed, n, room.bytes, n, &room.length));
-    REFUSED(2, bowlinette_open(key, s->key, set, SET - 1, iv, BLOCK, sealed, n, room.bytes, n, &room.length));
-    REFUSED(3, bowlinette_open(key, s->key, message, SET, iv, BLOCK, sealed, n, room.bytes, n, &room.length));
-    REFUSED(7, bowlinette_open(key, s->key, set, SET, iv, BLOCK - 1, sealed, n, room.bytes, n, &room.length));
-    REFUSED(8, bowlinette_open(key, s->key, set, SET, iv, BLOCK, sealed, 0, room.bytes, n, &room.length));
-    REFUSED(8, bowlinette_open(key, s->key, set, SET, iv, BLOCK, sealed, n - 1, room.bytes, n, &room.length));
-    REFUSED(9, bowlinette_open(key, s->key, set, SET, iv, BLOCK, sealed, n, room.bytes, n - 1, &room.length));
-    REFUSED(11, bowlinette_open(key, s->key, set, SET, iv, BLOCK, sealed, n, room.bytes, n, &room.length));
-    REFUSED(1, bowlinette_check(key, 33, set, SET, message, INK, tag, BLOCK, &room.small));
-    REFUSED(2, bowlinette_check(key, s->key, set, 0, message, INK, tag, BLOCK, &room.small));
-    REFUSED(3, bowlinette_check(key, s->key, message, SET, message, INK, tag, BLOCK, &room.small));
-    REFUSED(7, bowlinette_check(key, s->key, set, SET, message, INK, tag, BLOCK + 1, &room.small));
-    REFUSED(8, bowlinette_check(key, s->key, set, SET, message, LONGEST + 1, tag, BLOCK, &room.small));
-    CHECK(bowlinette_is_valid(key, 33, set, SET, message, INK, tag, BLOCK) == 0);
-    CHECK(bowlinette_is_valid(key, s->key, set, 0, message, INK, tag, BLOCK) == 0);
-    CHECK(bowlinette_is_valid(key, s->key, message, SET, message, INK, tag, BLOCK) == 0);
-    CHECK(bowlinette_is_valid(key, s->key, set, SET, message, INK, tag, BLOCK + 1) == 0);
-    CHECK(bowlinette_is_valid(key, s->key, set, SET, message, LONGEST + 1, tag, BLOCK) == 0);
+    REFUSED(1, bowlinette_open(schedule, key, 20, set, SET, iv, BLOCK, sealed, n, room.bytes, n, &room.length));
+    REFUSED(2, bowlinette_open(schedule, key, s->key, set, SET - 1, iv, BLOCK, sealed, n, room.bytes, n, &room.length));
+    REFUSED(3, bowlinette_open(schedule, key, s->key, message, SET, iv, BLOCK, sealed, n, room.bytes, n, &room.length));
+    REFUSED(7, bowlinette_open(schedule, key, s->key, set, SET, iv, BLOCK - 1, sealed, n, room.bytes, n, &room.length));
+    REFUSED(8, bowlinette_open(schedule, key, s->key, set, SET, iv, BLOCK, sealed, 0, room.bytes, n, &room.length));
+    REFUSED(8, bowlinette_open(schedule, key, s->key, set, SET, iv, BLOCK, sealed, n - 1, room.bytes, n, &room.length));
+    REFUSED(9, bowlinette_open(schedule, key, s->key, set, SET, iv, BLOCK, sealed, n, room.bytes, n - 1, &room.length));
+    REFUSED(11, bowlinette_open(schedule, key, s->key, set, SET, iv, BLOCK, sealed, n, room.bytes, n, &room.length));
+    REFUSED(1, bowlinette_check(schedule, key, 33, set, SET, message, INK, tag, BLOCK, &room.small));
+    REFUSED(2, bowlinette_check(schedule, key, s->key, set, 0, message, INK, tag, BLOCK, &room.small));
+    REFUSED(3, bowlinette_check(schedule, key, s->key, message, SET, message, INK, tag, BLOCK, &room.small));
+    REFUSED(7, bowlinette_check(schedule, key, s->key, set, SET, message, INK, tag, BLOCK + 1, &room.small));
+    REFUSED(8, bowlinette_check(schedule, key, s->key, set, SET, message, LONGEST + 1, tag, BLOCK, &room.small));
+    CHECK(bowlinette_is_valid(schedule, key, 33, set, SET, message, INK, tag, BLOCK) == 0);
+    CHECK(bowlinette_is_valid(schedule, key, s->key, set, 0, message, INK, tag, BLOCK) == 0);
+    CHECK(bowlinette_is_valid(schedule, key, s->key, message, SET, message, INK, tag, BLOCK) == 0);
+    CHECK(bowlinette_is_valid(schedule, key, s->key, set, SET, message, INK, tag, BLOCK + 1) == 0);
+    CHECK(bowlinette_is_valid(schedule, key, s->key, set, SET, message, LONGEST + 1, tag, BLOCK) == 0);
 }
 
 /* The struct that tells of an ink file has its 18 numbers one behind the other, in the order of the header. */
@@ -891,40 +948,51 @@ static void the_longest_ink_file(void)
     CHECK(ink.tag == 42 + BOWLINETTE_CODE_LENGTH_MAX + 6 && file[ink.tag - 5] == BOWLINETTE_INK_TAG);
 }
 
-int main(void)
+/* All that goes by a key, by the schedule. */
+static void with_a_key(const struct size *s)
 {
     static const size_t lengths[] = {0, 1, BLOCK - 1, BLOCK, BLOCK + 1, INK, LONGEST};
-    size_t i, n;
+    size_t n;
+
+    works(s);
+    works_for_reading(s);
+    blocks(s);
+    top_masks(s, chain, book, s->book, BOWLINETTE_BOOK_ROUND(0), bowlinette_build, bowlinette_seal);
+    top_masks(s, reading_chain, reading, s->reading, BOWLINETTE_READING_SUBTRACTS, bowlinette_build_reading, bowlinette_read);
+    for (n = 0; n < sizeof lengths / sizeof lengths[0]; n++) {
+        seal(s, lengths[n]);
+        reader(s, lengths[n]);
+        ink_file(s, lengths[n]);
+        archive(s, lengths[n]);
+    }
+    refusals_of_blocks();
+    refusals_of_the_works(s);
+    refusals_of_the_works_for_reading(s);
+    refusals_of_the_archive(s);
+}
+
+int main(void)
+{
+    size_t i;
 
     for (i = 0; i < sizeof key; i++)
         key[i] = (uint8_t)(29 * i + 1);
     version();
     texts();
-    refusals_of_blocks();
+    the_example_of_wf_lea();
     for (i = 0; i < sizeof sizes / sizeof sizes[0]; i++) {
         const struct size *s = &sizes[i];
         offsets(s);
         chains_of_one_byte(s);
-        works(s);
-        works_for_reading(s);
-        blocks(s);
-        top_masks(s, chain, book, s->book, BOWLINETTE_BOOK_ROUND(0), bowlinette_build, bowlinette_seal);
-        top_masks(s, reading_chain, reading, s->reading, BOWLINETTE_READING_SUBTRACTS, bowlinette_build_reading, bowlinette_read);
-        for (n = 0; n < sizeof lengths / sizeof lengths[0]; n++) {
-            seal(s, lengths[n]);
-            reader(s, lengths[n]);
-            ink_file(s, lengths[n]);
-            archive(s, lengths[n]);
-        }
+        for (schedule = BOWLINETTE_SCHEDULE_LEA; schedule <= BOWLINETTE_SCHEDULE_WF_LEA; schedule++)
+            with_a_key(s);
+        refusals_of_the_schedule(s);
         refusals_of_the_makers(s);
-        refusals_of_the_works(s);
-        refusals_of_the_works_for_reading(s);
         refusals_of_reading(s);
         refusals_of_the_pad();
         refusals_of_the_driver(s);
         refusals_of_a_session(s);
         refusals_of_the_first_byte(s);
-        refusals_of_the_archive(s);
     }
     ink_numbers();
     refusals_of_writing_ink();

@@ -4,7 +4,7 @@
 use reference::chain::{SET, WORD};
 use reference::driver::{self, Session};
 use reference::ink::{self, Fields};
-use reference::{lea, maker, Size};
+use reference::{lea, maker, Schedule, Size};
 use shared::books;
 use shared::maker::enough;
 use std::path::Path;
@@ -26,34 +26,43 @@ fn line(block: Result<lea::Block, u32>) -> String {
 
 /// The lines due, in the order of header.c.
 fn due() -> Vec<String> {
-    let key: Vec<u8> = (0..32).map(|i| 7 * i).collect();
-    let block: Vec<u8> = (0..16).map(|i| 11 * i).collect();
     let mut lines: Vec<String> = Vec::new();
     for s in Size::ALL {
         let (key, rounds, chain) = (s.key_bytes(), s.rounds(), s.chain_bytes());
         let (book, reading, random) = (s.book_bytes(), s.reading_bytes(), enough(s));
         lines.push(format!("{key} {rounds} {chain} {book} {reading} {random}"));
     }
-    lines.push(line(lea::encipher(&key, &block)));
-    lines.push(line(lea::decipher(&key, &block)));
-    lines.push(line(lea::first_rounds(&key, 5, &block)));
-    lines.push("1".into());
-    lines.push("1".into());
-    let row = lea::round_keys(&key, 3).unwrap();
-    let words: String = row.iter().map(|w| format!(" {w:08x}")).collect();
-    lines.push(format!("1{words}"));
     lines.push("1 1 1".into());
     lines.extend(due_chains());
     lines.push(line(Ok(*b"in ink\x0a\x0a\x0a\x0a\x0a\x0a\x0a\x0a\x0a\x0a")));
     lines.push(line(Ok(*b"in ink\x80\0\0\0\0\0\0\0\0\0")));
     lines.push("1 1 1 1 1 1".into());
     lines.extend(due_driver());
-    lines.extend(due_reading(&key));
-    lines.push(line(Ok(*b"in ink\0\0\0\0\0\0\0\0\0\0")));
-    lines.push("1 1 1".into());
-    lines.push("1 1 1 1 1".into());
+    lines.push("1 1".into());
+    let key: Vec<u8> = (0..32).map(|i| 7 * i).collect();
+    for schedule in Schedule::ALL.map(Schedule::number) {
+        lines.extend(due_cipher(schedule, &key));
+        lines.extend(due_reading(schedule, &key));
+        lines.push(line(Ok(*b"in ink\0\0\0\0\0\0\0\0\0\0")));
+        lines.push("1 1 1".into());
+        lines.push("1 1 1 1 1".into());
+    }
     lines.extend(due_ink());
     lines
+}
+
+/// Those of a block by the cipher.
+fn due_cipher(schedule: u8, key: &[u8]) -> Vec<String> {
+    let block: Vec<u8> = (0..16).map(|i| 11 * i).collect();
+    let row = lea::round_keys(schedule, key, 3).unwrap();
+    let words: String = row.iter().map(|w| format!(" {w:08x}")).collect();
+    vec![
+        line(lea::encipher(schedule, key, &block)),
+        line(lea::decipher(schedule, key, &block)),
+        line(lea::first_rounds(schedule, key, 5, &block)),
+        format!("1{words}"),
+        "1 1 1".into(),
+    ]
 }
 
 /// So many bytes that are not random.
@@ -112,12 +121,12 @@ fn due_driver() -> Vec<String> {
 }
 
 /// Those of reading: a block deciphered and folded with the one before.
-fn due_reading(key: &[u8]) -> Vec<String> {
+fn due_reading(schedule: u8, key: &[u8]) -> Vec<String> {
     let sealed = two_blocks();
     let (before, own) = sealed.split_at(16);
-    let plain = lea::decipher(key, own).unwrap();
+    let plain = lea::decipher(schedule, key, own).unwrap();
     let text = std::array::from_fn(|k| plain[k] ^ before[k]);
-    vec!["1 1 1 1".into(), line(Ok(text)), "1 1".into()]
+    vec!["1 1".into(), line(Ok(text)), "1 1".into()]
 }
 
 /// Those of an ink file: its bytes, the numbers that tell of it, and refusals.
