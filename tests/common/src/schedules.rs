@@ -1,12 +1,17 @@
 //! The numbers of the two schedules.
 
-use reference::{Schedule, Size};
+use reference::Size;
 
 /// The number of LEA's, for what stays with it.
 pub const LEA: u8 = 0;
+const WF_LEA: u8 = 1;
 
-/// Both numbers, each with all key sizes.
-pub fn each() -> impl Iterator<Item = (u8, Size)> {
-    let numbers = Schedule::ALL.into_iter().map(Schedule::number);
-    numbers.flat_map(|number| Size::ALL.map(|size| (number, size)))
-}
+/// Both, each with all key sizes.
+pub const EACH: [(u8, Size); 6] = [
+    (LEA, Size::Lea128),
+    (LEA, Size::Lea192),
+    (LEA, Size::Lea256),
+    (WF_LEA, Size::Lea128),
+    (WF_LEA, Size::Lea192),
+    (WF_LEA, Size::Lea256),
+];
