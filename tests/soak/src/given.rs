@@ -10,9 +10,10 @@ use shared::books::{self, Built};
 use shared::chains::top_masks;
 use shared::ink::{kind, record, remark_length, Owned, REMARK};
 use shared::maker::enough;
+use shared::schedules::EACH;
 use shared::Random;
 
-/// What a round of the soak draws from: its numbers, a size with a key, a chain and their book, what
+/// What a round of the soak draws from: its numbers, a size with a schedule, a key, a chain and their book, what
 /// reads the files that it seals, and a text of which messages are parts.
 pub struct Given<'a> {
     pub random: Random,
@@ -27,8 +28,8 @@ pub const TEXT: usize = LONGEST + 100;
 
 impl<'a> Given<'a> {
     pub fn new(mut random: Random, text: &'a [u8]) -> Given<'a> {
-        let size = random.one_of(&Size::ALL);
-        let built = books::built(size, &mut random);
+        let (schedule, size) = random.one_of(&EACH);
+        let built = books::built(schedule, size, &mut random);
         let reading = built.reading(&mut random);
         Given {
             random,
@@ -77,6 +78,15 @@ impl<'a> Given<'a> {
     fn other_size(&mut self, bytes: fn(Size) -> usize) -> Vec<u8> {
         let size = self.random.one_of(&Size::ALL);
         self.random.bytes(bytes(size))
+    }
+
+    /// The number of the schedule; or of the other, or any.
+    pub fn schedule(&mut self, wrong: bool) -> u8 {
+        match (wrong, self.random.below(4)) {
+            (false, _) => self.built.schedule,
+            (true, 0) => 1 - self.built.schedule,
+            (true, _) => self.random.number() as u8,
+        }
     }
 
     pub fn key(&mut self, wrong: bool) -> Vec<u8> {
@@ -318,7 +328,7 @@ impl<'a> Given<'a> {
             }
         }
         let set = self.set(self.size.rounds() + 1, false);
-        let mut sealed = sealed_text(&self.built.key, &set, iv, &text);
+        let mut sealed = sealed_text(self.built.schedule, &self.built.key, &set, iv, &text);
         if wrong {
             match self.random.below(3) {
                 0 => self.flip(&mut sealed),

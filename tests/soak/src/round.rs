@@ -72,31 +72,32 @@ impl Round<'_> {
     }
 
     fn cipher(&mut self) {
-        let [k, b] = self.given.wrong();
-        let (key, block, n) = (self.given.key(k), self.given.block(b), self.given.count());
-        let given = (key.clone(), block.clone(), n);
+        let [l, k, b] = self.given.wrong();
+        let (schedule, key) = (self.given.schedule(l), self.given.key(k));
+        let (block, n) = (self.given.block(b), self.given.count());
+        let given = (schedule, key.clone(), block.clone(), n);
         let versions = [&PROVED, &REFERENCE];
         self.agree(
             "encipher",
-            versions.map(|v| (v.encipher)(&key, &block)),
+            versions.map(|v| (v.encipher)(schedule, &key, &block)),
             &given,
         );
         self.agree(
             "decipher",
-            versions.map(|v| (v.decipher)(&key, &block)),
+            versions.map(|v| (v.decipher)(schedule, &key, &block)),
             &given,
         );
         self.agree(
             "first_rounds",
-            versions.map(|v| (v.first_rounds)(&key, n, &block)),
+            versions.map(|v| (v.first_rounds)(schedule, &key, n, &block)),
             &given,
         );
         self.agree(
             "round_keys",
-            versions.map(|v| (v.round_keys)(&key, n)),
+            versions.map(|v| (v.round_keys)(schedule, &key, n)),
             &given,
         );
-        assert_eq!((key, block, n), given, "key and block");
+        assert_eq!((schedule, key, block, n), given, "key and block");
     }
 
     fn checks(&mut self) {
@@ -188,28 +189,31 @@ impl Round<'_> {
     }
 
     fn open(&mut self) {
-        let [k, s, v, f, r] = self.given.wrong();
+        let [l, k, s, v, f, r] = self.given.wrong();
+        let schedule = self.given.schedule(l);
         let (key, iv) = (self.given.key(k), self.given.block(v));
         let set = self.given.set(self.given.size.rounds() + 1, s);
         let sealed = self.given.sealed(&iv, f);
         let room = self.given.room(sealed.len(), r);
         let before = (key.clone(), set.clone(), iv.clone(), sealed.clone());
-        self.count("open", &open(&key, &set, &iv, &sealed, room));
+        self.count("open", &open(schedule, &key, &set, &iv, &sealed, room));
         assert!((key, set, iv, sealed) == before, "what is opened");
     }
 
     /// With the right tag every other time.
     fn check(&mut self) {
-        let [k, s, m, t] = self.given.wrong();
+        let [l, k, s, m, t] = self.given.wrong();
+        let schedule = self.given.schedule(l);
         let (key, message) = (self.given.key(k), self.given.message(m));
         let set = self.given.set(self.given.size.rounds() + 1, s);
         let mut tag = self.given.block(t);
         if tag.len() == 16 && self.given.random.below(2) == 0 {
             let last = self.given.set(self.given.size.rounds() + 1, false);
-            tag = chain::code(&last, &cmac(&self.given.built.key, message)).to_vec();
+            let own = &self.given.built;
+            tag = chain::code(&last, &cmac(own.schedule, &own.key, message)).to_vec();
         }
         let before = (key.clone(), set.clone(), message.to_vec(), tag.clone());
-        self.count("check", &check(&key, &set, message, &tag));
+        self.count("check", &check(schedule, &key, &set, message, &tag));
         assert!(
             (key, set, message.to_vec(), tag) == before,
             "what is checked"
@@ -241,36 +245,38 @@ impl Round<'_> {
     }
 
     fn build(&mut self) {
-        let [k, c, r] = self.given.wrong();
-        let given = (self.given.key(k), self.given.chain(c));
+        let [l, k, c, r] = self.given.wrong();
+        let (schedule, key) = (self.given.schedule(l), self.given.key(k));
+        let given = (schedule, key, self.given.chain(c));
         self.whole_book("build", build, given, r, |given| &given.built);
     }
 
     fn build_reading(&mut self) {
-        let [k, c, r] = self.given.wrong();
-        let given = (self.given.key(k), self.given.reading_chain(c));
+        let [l, k, c, r] = self.given.wrong();
+        let (schedule, key) = (self.given.schedule(l), self.given.key(k));
+        let given = (schedule, key, self.given.reading_chain(c));
         self.whole_book("build_reading", build_reading, given, r, |given| {
             &given.reading
         });
     }
 
-    /// A key and a chain given to a builder, with a buffer that may be short: from the round's own key and
-    /// chain it must build the round's own book.
+    /// A schedule, a key and a chain given to a builder, with a buffer that may be short: from the round's own it
+    /// must build the round's own book.
     fn whole_book(
         &mut self,
         name: &str,
         call: Build,
-        (key, chain): (Vec<u8>, Vec<u8>),
+        (schedule, key, chain): (u8, Vec<u8>, Vec<u8>),
         short: bool,
         own: for<'b> fn(&'b Given) -> &'b Built,
     ) {
         let whole = own(&self.given).book.len();
         let room = self.given.room(whole, short);
         let before = (key.clone(), chain.clone());
-        let (number, book) = call(&key, &chain, room);
+        let (number, book) = call(schedule, &key, &chain, room);
         self.tally.add(name, number);
         let own = own(&self.given);
-        if number == 0 && (&key, &chain) == (&own.key, &own.chain) {
+        if number == 0 && (schedule, &key, &chain) == (own.schedule, &own.key, &own.chain) {
             assert!(book[..whole] == own.book, "{name}: the book again");
         }
         assert!((key, chain) == before, "{name}: key and chain");
@@ -283,9 +289,10 @@ impl Round<'_> {
         let chain = self.given.other_masks(self.given.built.chain.clone());
         let reading = self.given.other_masks(self.given.reading.chain.clone());
         let own = [&self.given.built, &self.given.reading];
-        let (told, book) = build(&own[0].key, &chain, own[0].book.len());
+        let (told, book) = build(own[0].schedule, &own[0].key, &chain, own[0].book.len());
         self.tally.add("build", told);
-        let (told, reading) = build_reading(&own[1].key, &reading, own[1].book.len());
+        let (told, reading) =
+            build_reading(own[1].schedule, &own[1].key, &reading, own[1].book.len());
         self.tally.add("build_reading", told);
         let made = |book: &[u8], reading: &[u8]| {
             let sealed = seal(book, &iv, &text, text.len());
@@ -297,12 +304,13 @@ impl Round<'_> {
     }
 
     fn build_round(&mut self) {
-        let [k, c, r] = self.given.wrong();
-        let (key, chain, n) = (self.given.key(k), self.given.chain(c), self.given.count());
+        let [l, k, c, r] = self.given.wrong();
+        let (schedule, key) = (self.given.schedule(l), self.given.key(k));
+        let (chain, n) = (self.given.chain(c), self.given.count());
         let room = self.given.room(ROUND, r);
         let before = (key.clone(), chain.clone());
-        self.tally
-            .add("build_round", build_round(&key, &chain, n, room).0);
+        let (number, _) = build_round(schedule, &key, &chain, n, room);
+        self.tally.add("build_round", number);
         assert!((key, chain) == before, "key and chain");
     }
 
@@ -352,17 +360,18 @@ impl Round<'_> {
         let built = &self.given.built;
         let mut tag = way::tagged(built, message);
         tag[self.given.random.below(16)] ^= 1 << self.given.random.below(8);
-        let told = check(&built.key, built.last_set(), message, &tag);
+        let told = check(built.schedule, &built.key, built.last_set(), message, &tag);
         assert_eq!(told, Ok(false), "not the tag");
     }
 
     /// The two round trips as single calls.
     fn roundtrips(&mut self) {
-        let [k, c, v, m, r] = self.given.wrong();
+        let [l, k, c, v, m, r] = self.given.wrong();
         let message = self.given.message(m);
         let code = due(Use::Sealing, message.len());
         let room = [self.given.size.book_bytes(), code, code, code];
         let given = roundtrip::Given {
+            schedule: self.given.schedule(l),
             key: self.given.key(k),
             chain: self.given.chain(c),
             iv: self.given.block(v),
