@@ -7,14 +7,16 @@ use reference::Size;
 use shared::archive::{check, open, sealed_text};
 use shared::cmac::cmac;
 use shared::pad::padded;
-use shared::{chains, Random};
+use shared::schedules::EACH;
+use shared::{chains, first, Random};
 
 /// The longest message, and the longest sealed one.
 const LONGEST: usize = 1_048_575;
 const SEALED: usize = 1_048_576;
 
-/// What pad, driver and archive have: the key, its book, the message set and set r.
+/// What pad, driver and archive have: the schedule, the key, its book, the message set and set r.
 struct Product {
+    schedule: u8,
     key: Vec<u8>,
     u: Vec<u8>,
     set: Vec<u8>,
@@ -23,14 +25,20 @@ struct Product {
 
 impl Product {
     /// Random, the book built by the proved library.
-    fn new(size: Size, random: &mut Random) -> Product {
+    fn new(schedule: u8, size: Size, random: &mut Random) -> Product {
         let key = random.bytes(size.key_bytes());
         let bytes = chains::valid(size, random);
         let mut book = vec![0; size.book_bytes()];
-        assert_eq!(bowlinette::build(&key, &bytes, &mut book), 0);
+        assert_eq!(bowlinette::build(schedule, &key, &bytes, &mut book), 0);
         let chain = chain::check(key.len(), &bytes).ok().unwrap();
         let (u, set) = (chain.message().to_vec(), chain.set(size.rounds()).to_vec());
-        Product { key, u, set, book }
+        Product {
+            schedule,
+            key,
+            u,
+            set,
+            book,
+        }
     }
 
     /// A message coded for sealing and sealed, by the proved library.
@@ -63,16 +71,17 @@ impl Product {
 
     /// A sealed file opened into a buffer with so many bytes more than it needs.
     fn open(&self, iv: &[u8], sealed: &[u8], more: usize) -> Result<Vec<u8>, u32> {
-        open(&self.key, &self.set, iv, sealed, sealed.len() + more)
+        let room = sealed.len() + more;
+        open(self.schedule, &self.key, &self.set, iv, sealed, room)
     }
 
     fn check(&self, message: &[u8], tag: &[u8]) -> Result<bool, u32> {
-        check(&self.key, &self.set, message, tag)
+        check(self.schedule, &self.key, &self.set, message, tag)
     }
 
     /// A tag is Valid, and with any one bit changed Invalid.
     fn only_valid(&self, message: &[u8], tag: &Block) {
-        let given = (self.key.len(), message.len());
+        let given = (self.schedule, self.key.len(), message.len());
         assert_eq!(self.check(message, tag), Ok(true), "{given:?}");
         for bit in 0..128 {
             let mut other = *tag;
@@ -97,12 +106,13 @@ fn lengths(random: &mut Random) -> Vec<usize> {
 #[test]
 fn what_is_sealed_is_cbc_and_opens() {
     let mut random = Random(90);
-    for size in Size::ALL.repeat(3) {
-        let product = Product::new(size, &mut random);
+    for (schedule, size) in EACH {
+        let product = Product::new(schedule, size, &mut random);
         for n in lengths(&mut random).into_iter().chain([LONGEST]) {
             let (iv, message) = (random.bytes(16), random.bytes(n));
             let sealed = product.seal(&iv, &message);
-            let due = sealed_text(&product.key, &product.set, &iv, &padded(&message));
+            let text = padded(&message);
+            let due = sealed_text(schedule, &product.key, &product.set, &iv, &text);
             assert!(sealed == due, "{size:?}, {n} bytes: CBC");
             let copy = sealed.clone();
             for more in [0, 1, 16, 1_000] {
@@ -131,8 +141,8 @@ fn others(message: &[u8], random: &mut Random) -> Vec<Vec<u8>> {
 #[test]
 fn tags_are_valid_for_their_message_alone() {
     let mut random = Random(91);
-    for size in Size::ALL.repeat(2) {
-        let product = Product::new(size, &mut random);
+    for (schedule, size) in EACH {
+        let product = Product::new(schedule, size, &mut random);
         for n in lengths(&mut random) {
             let message = random.bytes(n);
             let tag = product.tag(&message);
@@ -150,7 +160,7 @@ fn tags_are_valid_for_their_message_alone() {
 fn the_longest_messages() {
     let mut random = Random(92);
     for size in Size::ALL {
-        let product = Product::new(size, &mut random);
+        let product = Product::new(random.schedule(), size, &mut random);
         let mut message = random.bytes(LONGEST);
         let tag = product.tag(&message);
         product.only_valid(&message, &tag);
@@ -196,8 +206,8 @@ fn damaged(sealed: &[u8]) -> Vec<Vec<u8>> {
 fn damaged_files() {
     let mut random = Random(93);
     let (mut refused, mut opened) = (0, 0);
-    for size in Size::ALL.repeat(4) {
-        let product = Product::new(size, &mut random);
+    for (schedule, size) in EACH.repeat(2) {
+        let product = Product::new(schedule, size, &mut random);
         for n in [0, 1, 15, 16, 17, 40, 48, 100] {
             let (iv, message) = (random.bytes(16), random.bytes(n));
             let sealed = product.seal(&iv, &message);
@@ -216,20 +226,25 @@ fn damaged_files() {
     assert!(refused > 1_000 && opened > 1_000, "{refused}, {opened}");
 }
 
-/// With another key, another set or another IV a file does not open to its message, and a tag is not
-/// Valid. An IV changed in a byte changes that byte of the first block alone.
+/// With the other schedule, another key, another set or another IV a file does not open to its message, and a
+/// tag is not Valid. An IV changed in a byte changes that byte of the first block alone.
 #[test]
-fn other_keys_sets_and_ivs() {
+fn other_schedules_keys_sets_and_ivs() {
     let mut random = Random(94);
-    for size in Size::ALL.repeat(4) {
-        let right = Product::new(size, &mut random);
+    for (schedule, size) in EACH.repeat(2) {
+        let right = Product::new(schedule, size, &mut random);
         let (iv, message) = (random.bytes(16), random.bytes(100));
         let (sealed, tag) = (right.seal(&iv, &message), right.tag(&message));
-        let wrong = Product::new(size, &mut random);
-        for (key, set) in [(&wrong.key, &right.set), (&right.key, &wrong.set)] {
-            let told = open(key, set, &iv, &sealed, sealed.len());
-            assert!(told != Ok(message.clone()), "{size:?}");
-            assert_eq!(check(key, set, &message, &tag), Ok(false), "{size:?}");
+        let wrong = Product::new(schedule, size, &mut random);
+        for (schedule, key, set) in [
+            (1 - schedule, &right.key, &right.set),
+            (schedule, &wrong.key, &right.set),
+            (schedule, &right.key, &wrong.set),
+        ] {
+            let told = open(schedule, key, set, &iv, &sealed, sealed.len());
+            assert!(told != Ok(message.clone()), "{schedule}, {size:?}");
+            let told = check(schedule, key, set, &message, &tag);
+            assert_eq!(told, Ok(false), "{schedule}, {size:?}");
         }
         for k in 0..16 {
             let mut other = iv.clone();
@@ -249,12 +264,12 @@ fn any(size: Size, random: &mut Random) -> (Vec<u8>, Vec<u8>, Vec<u8>) {
 
 /// Texts that end in so many bytes: taken off, or 11.
 fn ends(size: Size, random: &mut Random, end: &[u8], taken_off: Option<usize>) {
-    let (key, set, iv) = any(size, random);
+    let (schedule, (key, set, iv)) = (random.schedule(), any(size, random));
     for blocks in 1..=3 {
         let mut text = random.bytes(16 * blocks - end.len());
         text.extend(end);
-        let sealed = sealed_text(&key, &set, &iv, &text);
-        let told = open(&key, &set, &iv, &sealed, sealed.len() + blocks);
+        let sealed = sealed_text(schedule, &key, &set, &iv, &text);
+        let told = open(schedule, &key, &set, &iv, &sealed, sealed.len() + blocks);
         let want = match taken_off {
             Some(v) => Ok(text[..text.len() - v].to_vec()),
             None => Err(11),
@@ -284,16 +299,23 @@ fn every_padding() {
     }
 }
 
-/// The first number, if any, of those whose reason holds.
-fn first(reasons: &[(u32, bool)]) -> u32 {
-    let fits = reasons.iter().find(|(_, holds)| *holds);
-    fits.map_or(0, |&(number, _)| number)
+/// Schedules and keys: right ones, keys of other lengths by both schedules, and numbers of no schedule with
+/// either.
+fn keys(random: &mut Random) -> Vec<(u8, Vec<u8>)> {
+    let mut given = EACH
+        .map(|(schedule, size)| (schedule, size.key_bytes()))
+        .to_vec();
+    let lengths = [0, 1, 15, 17, 23, 25, 31, 33, 48, 272, 65_552];
+    given.extend((0..).map(|k| k % 2).zip(lengths));
+    given.extend([(2, 16), (3, 24), (255, 32), (2, 0), (254, 17)]);
+    let key = |(schedule, length)| (schedule, random.bytes(length));
+    given.into_iter().map(key).collect()
 }
 
-/// Keys of right lengths and of others.
-fn keys(random: &mut Random) -> Vec<Vec<u8>> {
-    let lengths = [16, 24, 32, 0, 1, 15, 17, 23, 25, 31, 33, 48, 272, 65_552];
-    lengths.map(|n| random.bytes(n)).to_vec()
+/// The reasons to refuse a schedule or a key, in their order, and whether each holds.
+fn of_key(schedule: u8, key: &[u8]) -> [(u32, bool); 2] {
+    let wrong = Size::of_key(key.len()).is_none();
+    [(34, schedule > 1), (1, wrong)]
 }
 
 /// A set, and some that are none: of other lengths, with and without a wrong coding, and of its own
@@ -322,7 +344,12 @@ fn sets(random: &mut Random) -> Vec<(Vec<u8>, u32)> {
 const BLOCKS: [usize; 7] = [16, 0, 1, 15, 17, 272, 65_552];
 
 /// Sealed files of right and wrong lengths, and whether the padding of each is none.
-fn files(key: &[u8], set: &[u8], iv: &[u8], random: &mut Random) -> Vec<(Vec<u8>, bool)> {
+fn files(
+    (schedule, key): (u8, &[u8]),
+    set: &[u8],
+    iv: &[u8],
+    random: &mut Random,
+) -> Vec<(Vec<u8>, bool)> {
     let lengths = [
         0,
         1,
@@ -340,9 +367,9 @@ fn files(key: &[u8], set: &[u8], iv: &[u8], random: &mut Random) -> Vec<(Vec<u8>
         for (end, wrong) in [(1, false), (0, true)] {
             let mut text = random.bytes(n - 1);
             text.push(end);
-            let sealed = match Size::of_key(key.len()) {
-                Some(_) => sealed_text(key, set, iv, &text),
-                None => text,
+            let sealed = match first(&of_key(schedule, key)) {
+                0 => sealed_text(schedule, key, set, iv, &text),
+                _ => text,
             };
             files.push((sealed, wrong));
         }
@@ -355,24 +382,25 @@ fn files(key: &[u8], set: &[u8], iv: &[u8], random: &mut Random) -> Vec<(Vec<u8>
 fn refusals_of_opening() {
     let mut random = Random(96);
     let (sets, bytes) = (sets(&mut random), random.bytes(65_552));
-    for key in keys(&mut random) {
-        let wrong = Size::of_key(key.len()).is_none();
-        for (sealed, padding) in files(&key, &sets[0].0, &bytes[..16], &mut random) {
+    for (schedule, key) in keys(&mut random) {
+        let [other, wrong] = of_key(schedule, &key);
+        for (sealed, padding) in files((schedule, &key), &sets[0].0, &bytes[..16], &mut random) {
             let n = sealed.len();
             let length = n == 0 || n > SEALED || n % 16 != 0;
             for room in [n, n + 1, n.saturating_sub(1), n / 2, 0] {
                 for iv in BLOCKS {
-                    for (set, number) in &sets[..if n > 200 { 10 } else { sets.len() }] {
+                    for (set, number) in sets.iter().step_by(if n > 200 { 39 } else { 1 }) {
                         let due = first(&[
-                            (1, wrong),
+                            other,
+                            wrong,
                             (*number, *number != 0),
                             (7, iv != 16),
                             (8, length),
                             (9, room < n),
                             (11, padding),
                         ]);
-                        let told = open(&key, set, &bytes[..iv], &sealed, room);
-                        let given = (key.len(), set.len(), iv, n, room);
+                        let told = open(schedule, &key, set, &bytes[..iv], &sealed, room);
+                        let given = (schedule, key.len(), set.len(), iv, n, room);
                         assert_eq!(told.err().unwrap_or(0), due, "{given:?}");
                     }
                 }
@@ -386,8 +414,8 @@ fn refusals_of_opening() {
 fn refusals_of_checking() {
     let mut random = Random(97);
     let (sets, bytes) = (sets(&mut random), random.bytes(SEALED + 16));
-    for key in keys(&mut random) {
-        let wrong = Size::of_key(key.len()).is_none();
+    for (schedule, key) in keys(&mut random) {
+        let [other, wrong] = of_key(schedule, &key);
         for n in [
             0,
             1,
@@ -402,13 +430,14 @@ fn refusals_of_checking() {
             for tag in BLOCKS {
                 for (set, number) in &sets {
                     let due = first(&[
-                        (1, wrong),
+                        other,
+                        wrong,
                         (*number, *number != 0),
                         (7, tag != 16),
                         (8, n > LONGEST),
                     ]);
-                    let told = check(&key, set, &bytes[..n], &bytes[..tag]);
-                    let given = (key.len(), set.len(), tag, n);
+                    let told = check(schedule, &key, set, &bytes[..n], &bytes[..tag]);
+                    let given = (schedule, key.len(), set.len(), tag, n);
                     assert_eq!(told.err().unwrap_or(0), due, "{given:?}");
                 }
             }
@@ -422,14 +451,14 @@ fn refusals_of_checking() {
 fn any_bytes_opened() {
     let mut random = Random(98);
     let mut seen = [0; 12];
-    for size in Size::ALL {
-        for n in (0..=600).chain([16, 32].repeat(2_000)) {
+    for (schedule, size) in EACH {
+        for n in (0..=600).chain([16, 32].repeat(1_000)) {
             let (key, set, iv) = any(size, &mut random);
             let room = match random.below(4) {
                 0 => random.below(n + 2),
                 more => n + 7 * more,
             };
-            let told = open(&key, &set, &iv, &random.bytes(n), room);
+            let told = open(schedule, &key, &set, &iv, &random.bytes(n), room);
             seen[told.err().unwrap_or(0) as usize] += 1;
         }
     }
@@ -440,15 +469,16 @@ fn any_bytes_opened() {
 #[test]
 fn any_messages_checked() {
     let mut random = Random(99);
-    for size in Size::ALL {
+    for (schedule, size) in EACH {
         for n in 0..=600 {
             let (key, set, tag) = any(size, &mut random);
             let message = random.bytes(n);
-            let due = cmac(&key, &message);
+            let due = cmac(schedule, &key, &message);
             let right = chain::decode(&set, tag[..].try_into().unwrap()) == due;
-            assert_eq!(check(&key, &set, &message, &tag), Ok(right), "{n} bytes");
-            let tag = chain::code(&set, &due);
-            assert_eq!(check(&key, &set, &message, &tag), Ok(true), "{n} bytes");
+            let told = check(schedule, &key, &set, &message, &tag);
+            assert_eq!(told, Ok(right), "{n} bytes");
+            let told = check(schedule, &key, &set, &message, &chain::code(&set, &due));
+            assert_eq!(told, Ok(true), "{n} bytes");
         }
     }
 }

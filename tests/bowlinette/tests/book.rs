@@ -6,6 +6,7 @@ use reference::chain::{self, CODING, MIDDLES, SET, WORD};
 use reference::{lea, Size};
 use shared::book::{build, build_reading, build_round};
 use shared::chains::{self, uniform, IDENTITY};
+use shared::schedules::EACH;
 use shared::{books, places, Random, FILL};
 
 /// What is built.
@@ -19,15 +20,17 @@ enum Kind {
 #[derive(Clone)]
 struct Case {
     kind: Kind,
+    schedule: u8,
     size: Size,
     key: Vec<u8>,
     chain: Vec<u8>,
 }
 
 impl Case {
-    fn new(kind: Kind, size: Size, random: &mut Random) -> Case {
+    fn new(kind: Kind, (schedule, size): (u8, Size), random: &mut Random) -> Case {
         Case {
             kind,
+            schedule,
             size,
             key: random.bytes(size.key_bytes()),
             chain: match kind {
@@ -48,23 +51,23 @@ impl Case {
     /// The whole book.
     fn book(&self, length: usize) -> (u32, Vec<u8>) {
         match self.kind {
-            Kind::Book => build(&self.key, &self.chain, length),
-            Kind::Reading => build_reading(&self.key, &self.chain, length),
+            Kind::Book => build(self.schedule, &self.key, &self.chain, length),
+            Kind::Reading => build_reading(self.schedule, &self.key, &self.chain, length),
         }
     }
 
     /// One round of it.
     fn round(&self, number: usize, length: usize) -> (u32, Vec<u8>) {
-        build_round(&self.key, &self.chain, number, length)
+        build_round(self.schedule, &self.key, &self.chain, number, length)
     }
 }
 
-/// Runs a check on a few random keys and chains of each size, for books or for reading books.
+/// Runs a check on a few random keys and chains of each schedule and size, for books or for reading books.
 fn on_kind(kind: Kind, seed: u64, count: usize, check: impl Fn(Size, Case)) {
     let mut random = Random(seed);
-    for size in Size::ALL {
+    for (schedule, size) in EACH {
         for _ in 0..count {
-            check(size, Case::new(kind, size, &mut random));
+            check(size, Case::new(kind, (schedule, size), &mut random));
         }
     }
 }
@@ -185,10 +188,13 @@ fn chains_that_are_not_valid() {
     });
 }
 
-/// Every choice among the mistakes 1 to 5. Word 0 of set 1 is part of both word rules.
+/// Every choice among a mistake of each number from the schedule's, 34, and 1 to 5. Word 0 of set 1 is part of
+/// both word rules.
 #[test]
-fn the_lowest_number_first() {
-    let mistakes: [fn(&mut Case); 5] = [
+fn the_first_number() {
+    let numbers = [34, 1, 2, 3, 4, 5];
+    let mistakes: [fn(&mut Case); 6] = [
+        |c| c.schedule = 2,
         |c| c.key.push(0),
         |c| c.chain.push(0),
         |c| c.chain[0] = 16,
@@ -196,11 +202,11 @@ fn the_lowest_number_first() {
         |c| c.chain[SET * (c.size.rounds() + 2) + CODING * MIDDLES] = 2,
     ];
     on_cases(46, 1, |_, case| {
-        for choice in 0..32 {
+        for choice in 0..64 {
             let made = |k: &usize| choice >> k & 1 == 1;
-            let change = |c: &mut Case| (0..5).filter(made).for_each(|k| mistakes[k](c));
-            let due = (0..5).find(made).map_or(0, |k| k as u32 + 1);
-            assert_eq!(refused(&case, change), due, "mistakes {choice:05b}");
+            let change = |c: &mut Case| (0..6).filter(made).for_each(|k| mistakes[k](c));
+            let due = (0..6).find(made).map_or(0, |k| numbers[k]);
+            assert_eq!(refused(&case, change), due, "mistakes {choice:06b}");
         }
     });
 }
@@ -210,11 +216,11 @@ fn the_lowest_number_first() {
 /// them.
 #[test]
 fn table_examples() {
-    for size in Size::ALL {
-        let mut case = Case::new(Kind::Book, size, &mut Random(45));
+    for (schedule, size) in EACH {
+        let mut case = Case::new(Kind::Book, (schedule, size), &mut Random(45));
         case.chain = uniform(size, IDENTITY, 0);
         let (_, plain) = case.round(0, ROUND);
-        let row = lea::round_keys(&case.key, 0).unwrap();
+        let row = lea::round_keys(schedule, &case.key, 0).unwrap();
         let add = |tables: &[u8], j: usize, c: usize, p: usize, q: usize| {
             let half = |word: u32| (word >> (4 * j)) as usize & 15;
             tables[ADD * j + 256 * c + 16 * (p ^ half(row[0])) + (q ^ half(row[1]))]

@@ -8,6 +8,7 @@ use reference::lea::{self, Block};
 use reference::Size;
 use shared::books::Books;
 use shared::driver::{read, round, rounds, seal, Pass};
+use shared::schedules::{EACH, LEA};
 use shared::{books, first, Random, FILL};
 
 /// Each count of rounds, and on from each by the tables of the next.
@@ -46,19 +47,19 @@ fn rounds_of_any_tables() {
     }
 }
 
-/// After n rounds, decoded by set n: LEA's first n rounds of what set 0 decodes.
+/// After n rounds, decoded by set n: the cipher's first n rounds of what set 0 decodes.
 #[test]
 fn rounds_of_books_are_rounds_of_the_cipher() {
     let mut random = Random(72);
-    for size in Size::ALL {
-        let built = books::built(size, &mut random);
+    for (schedule, size) in EACH {
+        let built = books::built(schedule, size, &mut random);
         let chain = chain::check(built.key.len(), &built.chain).ok().unwrap();
         for _ in 0..20 {
             let coded: Block = random.bytes(16).try_into().unwrap();
             let plain = chain::decode(chain.set(0), &coded);
             for n in 0..=size.rounds() {
                 let x = rounds(&built.book, n, &coded).unwrap();
-                let want = lea::first_rounds(&built.key, n, &plain).unwrap();
+                let want = lea::first_rounds(schedule, &built.key, n, &plain).unwrap();
                 assert_eq!(chain::decode(chain.set(n), &x), want, "{size:?}, {n}");
             }
         }
@@ -73,7 +74,7 @@ fn the_example_of_two_rounds() {
     let block = number(0x1011_1213_1415_1617_1819_1a1b_1c1d_1e1f);
     let chain = chain::random(Size::Lea128, |bound| bound - 1);
     let mut book = vec![0; Size::Lea128.book_bytes()];
-    assert_eq!(bowlinette::build(&key, &chain, &mut book), 0);
+    assert_eq!(bowlinette::build(LEA, &key, &chain, &mut book), 0);
     let first = number(0x5190_070f_8d66_3d69_d4cf_ede5_1011_1213);
     let last = number(0x9fc8_4e35_28c6_c618_5532_c7a7_0464_8bfd);
     assert_eq!(rounds(&book, 1, &block), Ok(first));
@@ -325,8 +326,8 @@ fn refusals_of_reading() {
 #[test]
 fn sealed_files_are_cbc() {
     let mut random = Random(79);
-    for size in Size::ALL {
-        let built = books::built(size, &mut random);
+    for (schedule, size) in EACH {
+        let built = books::built(schedule, size, &mut random);
         let chain = chain::check(built.key.len(), &built.chain).ok().unwrap();
         let open =
             |block: &[u8]| chain::decode(chain.set(size.rounds()), block.try_into().unwrap());
@@ -341,7 +342,7 @@ fn sealed_files_are_cbc() {
             assert_eq!(number, 0, "{n} bytes sealed");
             let (mut text, mut before) = (Vec::new(), open(&iv));
             for block in file.chunks_exact(16).map(open) {
-                let plain = lea::decipher(&built.key, &block).unwrap();
+                let plain = lea::decipher(schedule, &built.key, &block).unwrap();
                 text.extend(plain.iter().zip(before).map(|(x, y)| x ^ y));
                 before = block;
             }

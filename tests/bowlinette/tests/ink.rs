@@ -562,11 +562,11 @@ struct Pad {
     built: Built,
 }
 
-/// A pad for each key size.
+/// A pad for each key size, by either schedule.
 fn pads(random: &mut Random) -> [Pad; 3] {
     Size::ALL.map(|size| Pad {
         number: random.bytes(8),
-        built: books::built(size, random),
+        built: books::built(random.schedule(), size, random),
     })
 }
 
@@ -600,9 +600,9 @@ fn taken(pads: &[Pad], file: &[u8]) -> Option<Vec<u8>> {
         ..
     } = ink.fields(file);
     let built = &pads.iter().find(|pad| pad.number == number)?.built;
-    let (key, set) = (&built.key, built.last_set());
-    let message = open(key, set, iv, sealed, sealed.len()).ok()?;
-    let valid = check(key, set, &message, tag) == Ok(true);
+    let (schedule, key, set) = (built.schedule, &built.key, built.last_set());
+    let message = open(schedule, key, set, iv, sealed, sealed.len()).ok()?;
+    let valid = check(schedule, key, set, &message, tag) == Ok(true);
     valid.then_some(message)
 }
 

@@ -8,6 +8,7 @@ use shared::book::{build, build_reading, Build};
 use shared::books::Built;
 use shared::chains::{self, on_each, uniform, Kind, IDENTITY, KINDS};
 use shared::maker::{enough, make, skipped, Made, Part, SKIPPED, STAY};
+use shared::schedules::EACH;
 use shared::{places, way, Random};
 
 /// A chain made in a buffer of its length.
@@ -350,17 +351,22 @@ fn the_first_fault() {
 }
 
 /// A chain that random bytes make, and the book that is built from it.
-fn built(kind: Kind, key: &[u8], set: &[u8], random: &mut Random) -> Built {
+fn built(kind: Kind, (schedule, key): (u8, &[u8]), set: &[u8], random: &mut Random) -> Built {
     let size = Size::of_key(key.len()).unwrap();
     let (_, chain) = made(kind, size, set, &random.bytes(enough(size))).unwrap();
     let (call, room): (Build, usize) = match kind {
         Kind::Sealing => (build, size.book_bytes()),
         Kind::Reading => (build_reading, size.reading_bytes()),
     };
-    let (number, book) = call(key, &chain, room);
+    let (number, book) = call(schedule, key, &chain, room);
     assert_eq!(number, 0, "{kind:?}, {size:?}");
     let key = key.to_vec();
-    Built { key, chain, book }
+    Built {
+        schedule,
+        key,
+        chain,
+        book,
+    }
 }
 
 /// What a book of a made chain seals, the book of a made reading chain reads, and the archive opens; what it
@@ -368,10 +374,15 @@ fn built(kind: Kind, key: &[u8], set: &[u8], random: &mut Random) -> Built {
 #[test]
 fn made_chains_on_the_whole_way() {
     let mut random = Random(159);
-    for size in Size::ALL.repeat(2) {
+    for (schedule, size) in EACH {
         let key = random.bytes(size.key_bytes());
-        let sealing = built(Kind::Sealing, &key, &[], &mut random);
-        let reading = built(Kind::Reading, &key, sealing.last_set(), &mut random);
+        let sealing = built(Kind::Sealing, (schedule, &key), &[], &mut random);
+        let reading = built(
+            Kind::Reading,
+            (schedule, &key),
+            sealing.last_set(),
+            &mut random,
+        );
         for n in [0, 1, 15, 16, 17, 1_000, 9_412] {
             let (iv, message) = (random.bytes(16), random.bytes(n));
             way::sealed(&sealing, &reading, &iv, &message);

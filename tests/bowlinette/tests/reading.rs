@@ -13,14 +13,16 @@ use shared::archive::{open, sealed_text};
 use shared::book::build_reading;
 use shared::books::{self, Built};
 use shared::driver::read;
+use shared::schedules::{EACH, LEA};
 use shared::way::{self, text_read};
 use shared::Random;
 
 /// A book, and what reads the files that it seals; the reading book is the proved library's.
-fn two_books(size: Size, random: &mut Random) -> (Built, Built) {
-    let sealing = books::built(size, random);
+fn two_books(schedule: u8, size: Size, random: &mut Random) -> (Built, Built) {
+    let sealing = books::built(schedule, size, random);
     let mut reading = sealing.reading(random);
-    let (number, book) = build_reading(&reading.key, &reading.chain, size.reading_bytes());
+    let (number, book) =
+        build_reading(schedule, &reading.key, &reading.chain, size.reading_bytes());
     assert_eq!(number, 0, "{size:?}");
     reading.book = book;
     (sealing, reading)
@@ -30,8 +32,8 @@ fn two_books(size: Size, random: &mut Random) -> (Built, Built) {
 #[test]
 fn what_is_sealed_is_read() {
     let mut random = Random(120);
-    for size in Size::ALL.repeat(2) {
-        let (sealing, reading) = two_books(size, &mut random);
+    for (schedule, size) in EACH {
+        let (sealing, reading) = two_books(schedule, size, &mut random);
         for n in (0..=50).chain([255, 256, 9_412, LONGEST]) {
             let (message, iv) = (random.bytes(n), random.bytes(16));
             way::sealed(&sealing, &reading, &iv, &message);
@@ -43,17 +45,17 @@ fn what_is_sealed_is_read() {
 #[test]
 fn any_blocks_are_read() {
     let mut random = Random(121);
-    for size in Size::ALL {
-        let (sealing, reading) = two_books(size, &mut random);
+    for (schedule, size) in EACH {
+        let (sealing, reading) = two_books(schedule, size, &mut random);
         for blocks in (1..=12).chain([100, 589]) {
             let (iv, sealed) = (random.bytes(16), random.bytes(16 * blocks));
             let plain = decode_all(sealing.last_set(), &[&iv[..], &sealed].concat());
-            let deciphered = |block: &[u8]| lea::decipher(&sealing.key, block).unwrap();
+            let deciphered = |block: &[u8]| lea::decipher(schedule, &sealing.key, block).unwrap();
             let own = plain[16..].chunks_exact(16).flat_map(deciphered);
             let due: Vec<u8> = own.zip(&plain).map(|(x, before)| x ^ before).collect();
             let text = text_read(&reading, &iv, &sealed);
             assert!(text == due, "{size:?}, {blocks} blocks");
-            let again = sealed_text(&sealing.key, sealing.last_set(), &iv, &text);
+            let again = sealed_text(schedule, &sealing.key, sealing.last_set(), &iv, &text);
             assert!(again == sealed, "{size:?}, {blocks} blocks sealed again");
         }
     }
@@ -63,13 +65,13 @@ fn any_blocks_are_read() {
 #[test]
 fn padding_is_not_looked_at() {
     let mut random = Random(122);
-    for size in Size::ALL {
-        let (sealing, reading) = two_books(size, &mut random);
+    for (schedule, size) in EACH {
+        let (sealing, reading) = two_books(schedule, size, &mut random);
         for last in [0, 17, 255] {
             let (iv, mut text) = (random.bytes(16), random.bytes(48));
             text[47] = last;
-            let sealed = sealed_text(&sealing.key, sealing.last_set(), &iv, &text);
-            let opened = open(&sealing.key, sealing.last_set(), &iv, &sealed, 48);
+            let sealed = sealed_text(schedule, &sealing.key, sealing.last_set(), &iv, &text);
+            let opened = open(schedule, &sealing.key, sealing.last_set(), &iv, &sealed, 48);
             assert_eq!(opened, Err(11), "{size:?}, {last}");
             assert_eq!(text_read(&reading, &iv, &sealed), text, "{size:?}, {last}");
         }
@@ -80,8 +82,8 @@ fn padding_is_not_looked_at() {
 #[test]
 fn what_a_changed_block_changes() {
     let mut random = Random(123);
-    for size in Size::ALL {
-        let (_, reading) = two_books(size, &mut random);
+    for (schedule, size) in EACH {
+        let (_, reading) = two_books(schedule, size, &mut random);
         let file = random.bytes(16 * 10);
         let read = |file: &[u8]| text_read(&reading, &file[..16], &file[16..]);
         let text = read(&file);
@@ -106,7 +108,7 @@ fn a_block_of_identity_codings() {
     let plain = number(0x1011_1213_1415_1617_1819_1a1b_1c1d_1e1f);
     let enciphered = number(0x9fc8_4e35_28c6_c618_5532_c7a7_0464_8bfd);
     let chain = chain::random_reading(Size::Lea128, None, |bound| bound - 1);
-    let (number, book) = build_reading(&key, &chain, Size::Lea128.reading_bytes());
+    let (number, book) = build_reading(LEA, &key, &chain, Size::Lea128.reading_bytes());
     assert_eq!(number, 0);
     assert_eq!(read(&book, &[0; 16], &enciphered, 16), (0, plain.to_vec()));
     let folded: Vec<u8> = plain.iter().map(|x| x ^ 0x3c).collect();

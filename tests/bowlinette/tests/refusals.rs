@@ -1,9 +1,10 @@
 //! Keys and blocks of every length near the right ones, and of lengths that only differ from them
-//! above the low bits: which number comes back, and which bytes change.
+//! above the low bits, by both schedules and by numbers of none: which number comes back, and which bytes
+//! change.
 
 use shared::lent::written;
 use shared::version::{Version, PROVED, REFERENCE};
-use shared::Random;
+use shared::{first, Random};
 use std::fmt::Debug;
 
 /// 0 to 40, and the right lengths with 256 or 65,536 added.
@@ -11,15 +12,10 @@ fn lengths() -> impl Iterator<Item = usize> + Clone {
     (0..=40).chain([272, 280, 288, 65_552, 65_560, 65_568])
 }
 
-/// The number due: 1 for the key, before 7 for the block.
-fn due(key: usize, block: usize) -> u32 {
-    if key != 16 && key != 24 && key != 32 {
-        1
-    } else if block != 16 {
-        7
-    } else {
-        0
-    }
+/// The number due: 34 for the schedule, before 1 for the key, before 7 for the block.
+fn due(schedule: u8, key: usize, block: usize) -> u32 {
+    let wrong = key != 16 && key != 24 && key != 32;
+    first(&[(34, schedule > 1), (1, wrong), (7, block != 16)])
 }
 
 /// The call must return this number, and write if that is 0.
@@ -33,14 +29,19 @@ fn guarded<T: Copy + PartialEq + Debug, const N: usize>(
     assert_ne!(told, Ok([fill; N]), "nothing is written");
 }
 
+/// The numbers of the schedules, and two of none.
+const SCHEDULES: [u8; 4] = [0, 1, 2, 255];
+
 /// Runs a check for each pair of lengths on a key and a block, which must stay as they are.
-fn on_pairs(check: impl Fn(&[u8], &[u8], u32)) {
+fn on_pairs(check: impl Fn(u8, &[u8], &[u8], u32)) {
     let mut random = Random(5);
     for k in lengths() {
         for b in lengths() {
             let (key, block) = (random.bytes(k), random.bytes(b));
             let before = (key.clone(), block.clone());
-            check(&key, &block, due(k, b));
+            for schedule in SCHEDULES {
+                check(schedule, &key, &block, due(schedule, k, b));
+            }
             assert_eq!((key, block), before, "key of {k}, block of {b}");
         }
     }
@@ -48,24 +49,28 @@ fn on_pairs(check: impl Fn(&[u8], &[u8], u32)) {
 
 #[test]
 fn encipher() {
-    on_pairs(|key, block, number| {
-        guarded(0xa5, number, |out| bowlinette::encipher(key, block, out));
+    on_pairs(|schedule, key, block, number| {
+        guarded(0xa5, number, |out| {
+            bowlinette::encipher(schedule, key, block, out)
+        });
     });
 }
 
 #[test]
 fn decipher() {
-    on_pairs(|key, block, number| {
-        guarded(0xa5, number, |out| bowlinette::decipher(key, block, out));
+    on_pairs(|schedule, key, block, number| {
+        guarded(0xa5, number, |out| {
+            bowlinette::decipher(schedule, key, block, out)
+        });
     });
 }
 
 #[test]
 fn first_rounds() {
-    on_pairs(|key, block, number| {
+    on_pairs(|schedule, key, block, number| {
         for count in [0, 1, 24, usize::MAX] {
             guarded(0xa5, number, |out| {
-                bowlinette::first_rounds(key, count, block, out)
+                bowlinette::first_rounds(schedule, key, count, block, out)
             });
         }
     });
@@ -77,9 +82,12 @@ fn round_keys() {
     for k in lengths() {
         let key = random.bytes(k);
         let before = key.clone();
-        for number in [0, 1, 31, usize::MAX] {
-            guarded(0xa5a5_a5a5, due(k, 16), |row| {
-                bowlinette::round_keys(&key, number, row)
+        for (schedule, number) in SCHEDULES
+            .map(|s| [0, 1, 31, usize::MAX].map(|n| (s, n)))
+            .concat()
+        {
+            guarded(0xa5a5_a5a5, due(schedule, k, 16), |row| {
+                bowlinette::round_keys(schedule, &key, number, row)
             });
         }
         assert_eq!(key, before, "key of {k}");
@@ -90,19 +98,19 @@ fn round_keys() {
 #[test]
 fn both_versions_alike() {
     let number = |r: Result<(), u32>| r.err().unwrap_or(0);
-    let told = |v: &Version, key: &[u8], block: &[u8]| {
+    let told = |v: &Version, schedule: u8, key: &[u8], block: &[u8]| {
         [
-            number((v.encipher)(key, block).map(drop)),
-            number((v.decipher)(key, block).map(drop)),
-            number((v.first_rounds)(key, 3, block).map(drop)),
-            number((v.round_keys)(key, 3).map(drop)),
+            number((v.encipher)(schedule, key, block).map(drop)),
+            number((v.decipher)(schedule, key, block).map(drop)),
+            number((v.first_rounds)(schedule, key, 3, block).map(drop)),
+            number((v.round_keys)(schedule, key, 3).map(drop)),
         ]
     };
-    on_pairs(|key, block, number| {
-        let want = [number, number, number, due(key.len(), 16)];
+    on_pairs(|schedule, key, block, number| {
+        let want = [number, number, number, due(schedule, key.len(), 16)];
         for v in [&PROVED, &REFERENCE] {
-            let lengths = (key.len(), block.len());
-            assert_eq!(told(v, key, block), want, "{}, {lengths:?}", v.name);
+            let given = (schedule, key.len(), block.len());
+            assert_eq!(told(v, schedule, key, block), want, "{}, {given:?}", v.name);
         }
     });
 }

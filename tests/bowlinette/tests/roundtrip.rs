@@ -6,6 +6,7 @@ use reference::chain::{CODING, MIDDLES, SET};
 use reference::pad::LONGEST;
 use reference::Size;
 use shared::roundtrip::Given;
+use shared::schedules::EACH;
 use shared::Random;
 
 /// The named lengths, and some random ones.
@@ -13,12 +14,12 @@ use shared::Random;
 fn messages_that_are_not_refused() {
     let mut random = Random(110);
     let bytes = random.bytes(LONGEST);
-    for size in Size::ALL {
+    for own in EACH {
         let mut lengths = vec![0, 1, 15, 16, 17, 9_412, LONGEST];
-        lengths.extend((0..30).map(|_| random.below(3_000)));
+        lengths.extend((0..15).map(|_| random.below(3_000)));
         for n in lengths {
             let more = random.one_of(&[0, 1, 16, 100]);
-            let given = Given::new(size, &bytes[LONGEST - n..], more, &mut random);
+            let given = Given::new(own, &bytes[LONGEST - n..], more, &mut random);
             assert_eq!(given.tagged(), 0, "{}", given.lengths());
             assert_eq!(given.sealed(), 0, "{}", given.lengths());
         }
@@ -28,6 +29,7 @@ fn messages_that_are_not_refused() {
 /// One thing made wrong, in the order in which the round trips meet them.
 #[derive(Clone, Copy)]
 enum Wrong {
+    Schedule(u8),
     Key(usize),
     ChainLength(usize),
     Coding,
@@ -46,6 +48,7 @@ impl Wrong {
     fn make<'a>(self, size: Size, long: &'a [u8], given: &mut Given<'a>) -> u32 {
         let cut = |room: &mut usize, by: usize| *room -= by.min(*room);
         match self {
+            Wrong::Schedule(number) => given.schedule = number,
             Wrong::Key(n) => given.key.resize(n, 7),
             Wrong::ChainLength(n) => given.chain.resize(n, 0),
             Wrong::Coding => given.chain[SET + 5] = given.chain[SET + 6],
@@ -62,6 +65,7 @@ impl Wrong {
             Wrong::Out(by) => cut(&mut given.rooms[3], by),
         }
         match self {
+            Wrong::Schedule(_) => 34,
             Wrong::Key(_) => 1,
             Wrong::ChainLength(_) => 2,
             Wrong::Coding => 3,
@@ -84,9 +88,10 @@ impl Wrong {
 fn each_refusal() {
     let mut random = Random(111);
     let long = random.bytes(LONGEST + 1);
-    for size in Size::ALL {
+    for (schedule, size) in EACH {
         let chain = size.chain_bytes();
         let mut wrongs = vec![Wrong::Coding, Wrong::Word, Wrong::Mask, Wrong::Message];
+        wrongs.extend([2, 3, 128, 255].map(Wrong::Schedule));
         wrongs.extend([0, 1, 15, 17, 33, 272].map(Wrong::Key));
         wrongs.extend([0, SET, chain - 1, chain + 1].map(Wrong::ChainLength));
         wrongs.extend([0, 1, 15, 17, 272].map(Wrong::Iv));
@@ -96,7 +101,7 @@ fn each_refusal() {
         }
         for wrong in wrongs {
             for n in [0, 1, 40] {
-                let mut given = Given::new(size, &long[..n], 0, &mut random);
+                let mut given = Given::new((schedule, size), &long[..n], 0, &mut random);
                 let number = wrong.make(size, &long, &mut given);
                 let tagged = if wrong.is_of_sealing() { 0 } else { number };
                 assert_eq!(given.sealed(), number, "{}", given.lengths());
@@ -112,6 +117,7 @@ fn the_first_refusal_decides() {
     let mut random = Random(112);
     let long = random.bytes(LONGEST + 1);
     let wrongs = [
+        Wrong::Schedule(2),
         Wrong::Key(20),
         Wrong::Word,
         Wrong::Mask,
@@ -122,10 +128,10 @@ fn the_first_refusal_decides() {
         Wrong::Sealed(1),
         Wrong::Out(1),
     ];
-    let right = Size::ALL.map(|size| Given::new(size, &long[..40], 0, &mut random));
+    let right = EACH.map(|own| Given::new(own, &long[..40], 0, &mut random));
     for set in 0..1 << wrongs.len() {
-        let size = Size::ALL[set % 3];
-        let (mut given, mut met) = (right[set % 3].clone(), Vec::new());
+        let (_, size) = EACH[set % 6];
+        let (mut given, mut met) = (right[set % 6].clone(), Vec::new());
         for (k, wrong) in wrongs.into_iter().enumerate() {
             if set >> k & 1 == 1 {
                 let number = wrong.make(size, &long, &mut given);

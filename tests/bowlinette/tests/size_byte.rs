@@ -6,9 +6,9 @@ use reference::book::{double, GROUP, ROUND, START};
 use reference::chain::{self, Chain, CODING, SET};
 use reference::driver::{self, fold, halves, run_round};
 use reference::lea::{self, Block};
-use reference::Size;
 use shared::book::{build, build_round};
 use shared::driver::{read, round, rounds, seal};
+use shared::schedules::EACH;
 use shared::session::{tag, Both, Call};
 use shared::{books, chains, Random};
 
@@ -110,15 +110,15 @@ fn group(chain: Chain, subkey: &Block) -> Vec<u8> {
 }
 
 /// What a book of a key and a chain was without its first byte: start, groups, and each round by itself.
-fn body(key: &[u8], bytes: &[u8]) -> Vec<u8> {
+fn body(schedule: u8, key: &[u8], bytes: &[u8]) -> Vec<u8> {
     let chain = chain::check(key.len(), bytes).ok().unwrap();
     let mut body = chain::code(chain.set(chain.rounds()), &[0; 16]).to_vec();
-    let first = double(lea::encipher(key, &[0; 16]).unwrap());
+    let first = double(lea::encipher(schedule, key, &[0; 16]).unwrap());
     for subkey in [[0; 16], first, double(first)] {
         body.extend(group(chain, &subkey));
     }
     for l in 0..chain.rounds() {
-        let (number, tables) = build_round(key, bytes, l, ROUND);
+        let (number, tables) = build_round(schedule, key, bytes, l, ROUND);
         assert_eq!(number, 0, "round {l}");
         body.extend(tables);
     }
@@ -129,16 +129,17 @@ fn body(key: &[u8], bytes: &[u8]) -> Vec<u8> {
 #[test]
 fn books_that_are_built() {
     let mut random = Random(202);
-    for (size, length) in Size::ALL.into_iter().zip(books::LENGTHS) {
+    for (schedule, size) in EACH {
+        let length = books::LENGTHS[size as usize];
         let key = random.bytes(size.key_bytes());
         let chain = chains::valid(size, &mut random);
-        let (number, book) = build(&key, &chain, length);
+        let (number, book) = build(schedule, &key, &chain, length);
         assert_eq!(number, 0, "{size:?}");
         assert!(
-            book == behind(key.len() as u8, &body(&key, &chain)),
+            book == behind(key.len() as u8, &body(schedule, &key, &chain)),
             "{size:?}"
         );
-        assert_eq!(build(&key, &chain, length - 1).0, 9, "{size:?}");
+        assert_eq!(build(schedule, &key, &chain, length - 1).0, 9, "{size:?}");
     }
 }
 

@@ -10,6 +10,7 @@ use shared::book::{build, build_reading, build_round};
 use shared::books::{self, Built};
 use shared::chains::{on_each, top_masks, uniform, Kind, IDENTITY};
 use shared::driver::{read, round, rounds, seal};
+use shared::schedules::EACH;
 use shared::session::{Both, Call};
 use shared::Random;
 use std::collections::BTreeSet;
@@ -33,11 +34,11 @@ fn masked(size: Size, chain: &[u8], sums: &[usize]) -> Vec<u8> {
 }
 
 /// The book of a chain of a kind.
-fn built(kind: Kind, key: &[u8], chain: &[u8]) -> Vec<u8> {
+fn built(kind: Kind, (schedule, key): (u8, &[u8]), chain: &[u8]) -> Vec<u8> {
     let size = Size::of_key(key.len()).unwrap();
     let (number, book) = match kind {
-        Kind::Sealing => build(key, chain, size.book_bytes()),
-        Kind::Reading => build_reading(key, chain, size.reading_bytes()),
+        Kind::Sealing => build(schedule, key, chain, size.book_bytes()),
+        Kind::Reading => build_reading(schedule, key, chain, size.reading_bytes()),
     };
     assert_eq!(number, 0, "{kind:?}, {size:?}");
     book
@@ -60,14 +61,15 @@ fn what_the_masks_change() {
     on_each(|kind, size| {
         let key = random.bytes(size.key_bytes());
         let chain = kind.random(size, &mut random);
-        let book = built(kind, &key, &chain);
+        let own = (random.schedule(), &key[..]);
+        let book = built(kind, own, &chain);
         for sums in choices(size, &mut random) {
             let mut due = book.clone();
             for &n in &sums {
                 let table = &mut due[table_at(kind, n, 7)..][..ADD];
                 table.iter_mut().for_each(|entry| *entry ^= 16);
             }
-            let other = built(kind, &key, &masked(size, &chain, &sums));
+            let other = built(kind, own, &masked(size, &chain, &sums));
             assert!(other == due, "{kind:?}, {size:?}, {sums:?}");
         }
     });
@@ -88,7 +90,8 @@ impl Made {
     fn with(sealing: &Built, reading: &Built, iv: &[u8], coded: &[u8]) -> Made {
         let (book, r) = (&sealing.book, sealing.size().rounds());
         let by_itself = |l: usize| {
-            let (number, tables) = build_round(&sealing.key, &sealing.chain, l, ROUND);
+            let (number, tables) =
+                build_round(sealing.schedule, &sealing.key, &sealing.chain, l, ROUND);
             assert_eq!(number, 0, "round {l}");
             round(&tables, iv).unwrap()
         };
@@ -120,16 +123,21 @@ impl Made {
 #[test]
 fn what_the_masks_leave() {
     let mut random = Random(211);
-    for size in Size::ALL {
-        let sealing = books::built(size, &mut random);
+    for (schedule, size) in EACH {
+        let sealing = books::built(schedule, size, &mut random);
         let reading = sealing.reading(&mut random);
         let (iv, coded) = (random.bytes(16), random.bytes(64));
         let due = Made::with(&sealing, &reading, &iv, &coded);
         for sums in choices(size, &mut random) {
             let other = |kind: Kind, own: &Built| {
                 let (key, chain) = (own.key.clone(), masked(size, &own.chain, &sums));
-                let book = built(kind, &key, &chain);
-                Built { key, chain, book }
+                let book = built(kind, (schedule, &key), &chain);
+                Built {
+                    schedule,
+                    key,
+                    chain,
+                    book,
+                }
             };
             let others = (
                 other(Kind::Sealing, &sealing),
@@ -157,7 +165,11 @@ fn no_half_byte_stands_out() {
     let mut random = Random(212);
     on_each(|kind, size| {
         let key = random.bytes(size.key_bytes());
-        let book = built(kind, &key, &kind.random(size, &mut random));
+        let book = built(
+            kind,
+            (random.schedule(), &key),
+            &kind.random(size, &mut random),
+        );
         for j in 0..8 {
             let counts =
                 (0..3 * size.rounds()).map(|n| carries(&book[table_at(kind, n, j)..][..ADD]));
@@ -173,13 +185,13 @@ fn no_half_byte_stands_out() {
 /// those of the last row.
 #[test]
 fn figures_of_differences() {
-    for size in Size::ALL {
+    for (schedule, size) in EACH {
         let key = Random(213).bytes(size.key_bytes());
-        let row = lea::round_keys(&key, size.rounds() - 1).unwrap();
+        let row = lea::round_keys(schedule, &key, size.rounds() - 1).unwrap();
         let half = |k: usize| (row[k] >> 28) as usize;
         for (sums, due) in [(vec![], [31, 1]), (vec![0, 1, 2], [15, 17])] {
             let chain = masked(size, &uniform(size, IDENTITY, 0), &sums);
-            let book = built(Kind::Reading, &key, &chain);
+            let book = built(Kind::Reading, (schedule, &key), &chain);
             for i in 0..3 {
                 let table = &book[table_at(Kind::Reading, i, 7)..][..ADD];
                 let less = |t: usize, x: usize| {

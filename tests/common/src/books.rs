@@ -1,7 +1,6 @@
 //! Random books, and what is refused of a book.
 
 use crate::chains;
-use crate::schedules::each;
 use crate::Random;
 use reference::book::{self, FRONT, GROUP, ROUND, START};
 use reference::chain::SET;
@@ -107,23 +106,29 @@ pub fn fronts(random: &mut Random) -> [Vec<u8>; 6] {
 /// Books, each with its size.
 pub type Books = Vec<(Size, Vec<u8>)>;
 
-/// A book of each schedule and size, and random bytes that are taken as one, of each size.
-pub fn any(random: &mut Random) -> Books {
-    let built = each().map(|(schedule, size)| (size, built(schedule, size, random).book));
-    let mut books: Books = built.collect();
-    books.extend(Size::ALL.map(|size| (size, bytes(size, random))));
-    books
+/// Two books of each size.
+fn two_each(random: &mut Random, two: impl Fn(Size, &mut Random) -> [Vec<u8>; 2]) -> Books {
+    let each = |size| two(size, random).map(|book| (size, book));
+    Size::ALL.into_iter().flat_map(each).collect()
 }
 
-/// A reading book of each schedule and size, and bytes of a reading book's length, of each size.
+/// A book by either schedule, and random bytes that are taken as one, of each size.
+pub fn any(random: &mut Random) -> Books {
+    two_each(random, |size, random| {
+        [
+            built(random.schedule(), size, random).book,
+            bytes(size, random),
+        ]
+    })
+}
+
+/// A reading book by either schedule, and bytes of a reading book's length, of each size.
 pub fn any_reading(random: &mut Random) -> Books {
-    let built = each().map(|(schedule, size)| {
-        let sealing = built(schedule, size, random);
-        (size, sealing.reading(random).book)
-    });
-    let mut books: Books = built.collect();
-    books.extend(Size::ALL.map(|size| (size, random.bytes(size.reading_bytes()))));
-    books
+    two_each(random, |size, random| {
+        let sealing = built(random.schedule(), size, random);
+        let book = sealing.reading(random).book;
+        [book, random.bytes(size.reading_bytes())]
+    })
 }
 
 /// A book with the bits changed that a reader does not use of the byte at a place.

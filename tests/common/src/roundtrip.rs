@@ -26,11 +26,16 @@ struct Left<T, const N: usize> {
 }
 
 impl<'a> Given<'a> {
-    /// A random schedule, key, chain and IV, and buffers with so many bytes more than both need.
-    pub fn new(size: Size, message: &'a [u8], more: usize, random: &mut Random) -> Given<'a> {
+    /// A random key, chain and IV, and buffers with so many bytes more than both need.
+    pub fn new(
+        (schedule, size): (u8, Size),
+        message: &'a [u8],
+        more: usize,
+        random: &mut Random,
+    ) -> Given<'a> {
         let code = message.len() / BLOCK * BLOCK + BLOCK;
         Given {
-            schedule: random.schedule(),
+            schedule,
             key: random.bytes(size.key_bytes()),
             chain: chains::valid(size, random),
             iv: random.bytes(BLOCK),

@@ -10,7 +10,7 @@ use reference::chain::{self, decode, Chain, CODING, MIDDLES, SET};
 use reference::driver::{block, fold, halves, round, run_round, run_rounds, seal, Session};
 use reference::lea::{self, Block};
 use shared::chains::{uniform, IDENTITY};
-use shared::schedules::each;
+use shared::schedules::EACH;
 
 /// The key lengths, and the lengths of their books (request 2026-05).
 const LENGTHS: [(usize, usize); 3] = [(16, 466_961), (24, 540_689), (32, 614_417)];
@@ -25,7 +25,7 @@ fn subkeys(schedule: u8, key: &[u8]) -> [Block; 3] {
 #[test]
 fn rounds_of_tables_are_rounds_of_the_cipher() {
     let mut below = numbers(1);
-    for (schedule, size) in each() {
+    for (schedule, size) in EACH {
         let (key, bytes, book) = built(schedule, size, &mut below);
         let chain = chain::check(key.len(), &bytes).ok().unwrap();
         for _ in 0..20 {
@@ -61,7 +61,7 @@ fn add_entry(
 #[test]
 fn every_entry_of_the_adds() {
     let mut below = numbers(17);
-    for (schedule, size) in each() {
+    for (schedule, size) in EACH {
         let (key, bytes, book) = built(schedule, size, &mut below);
         let chain = chain::check(key.len(), &bytes).ok().unwrap();
         let rounds = book[FRONT + START + 3 * GROUP..].chunks_exact(ROUND);
@@ -80,7 +80,7 @@ fn every_entry_of_the_adds() {
 /// carry is seen where the mask at half byte 0 is 0, and not where that is 1 (request 2026-06).
 #[test]
 fn the_top_of_a_sum() {
-    for (schedule, size) in each() {
+    for (schedule, size) in EACH {
         let (key, mut tables) = (vec![0x5c; size.key_bytes()], [0; ROUND]);
         let row = lea::round_keys(schedule, &key, 0).unwrap();
         let mut chain = uniform(size, IDENTITY, 0);
@@ -101,7 +101,7 @@ fn the_top_of_a_sum() {
 #[test]
 fn folds_are_xors() {
     let mut below = numbers(2);
-    for (schedule, size) in each() {
+    for (schedule, size) in EACH {
         let (key, bytes, book) = built(schedule, size, &mut below);
         let chain = chain::check(key.len(), &bytes).ok().unwrap();
         let last = chain.set(size.rounds());
@@ -138,7 +138,7 @@ fn group(chain: Chain, subkey: Block) -> Vec<u8> {
 #[test]
 fn every_part_in_its_place() {
     let mut below = numbers(10);
-    for (schedule, size) in each() {
+    for (schedule, size) in EACH {
         let (key_bytes, length) = LENGTHS[size as usize];
         let (key, bytes, book) = built(schedule, size, &mut below);
         let chain = chain::check(key.len(), &bytes).ok().unwrap();
@@ -166,7 +166,7 @@ fn every_part_in_its_place() {
 #[test]
 fn buffers_for_a_book() {
     let mut below = numbers(11);
-    for (schedule, size) in each() {
+    for (schedule, size) in EACH {
         let (key_bytes, length) = LENGTHS[size as usize];
         let (key, chain, book) = built(schedule, size, &mut below);
         assert_eq!((key.len(), book.len()), (key_bytes, length));

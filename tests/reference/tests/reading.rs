@@ -9,7 +9,7 @@ use reference::driver::{self, halves};
 use reference::lea::{self, Block};
 use reference::schedule::{expand, EMPTY};
 use reference::{pad, reading, Size};
-use shared::schedules::each;
+use shared::schedules::EACH;
 
 /// A key and its schedule, its sealing book, and the chains and the reading book that go with it.
 struct Given {
@@ -57,7 +57,7 @@ impl Given {
 /// Runs a check on random keys, chains and books of each schedule and size.
 fn on_each(seed: u32, mut check: impl FnMut(Given, &mut dyn FnMut(usize) -> usize)) {
     let mut below = numbers(seed);
-    for (schedule, size) in each() {
+    for (schedule, size) in EACH {
         check(Given::new(schedule, size, &mut below), &mut below);
     }
 }
