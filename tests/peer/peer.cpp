@@ -1,6 +1,6 @@
 /*
- * The C library beside Crypto++, which others wrote: LEA of blocks, whole files sealed and opened, and tags made by
- * sessions and checked, for random keys and messages. All codings are identities, so that a sealed file is
+ * The C library beside Crypto++, which others wrote: blocks by LEA and by WF-LEA, whole files sealed and opened, and
+ * tags made by sessions and checked, for random keys and messages. All codings are identities, so that a sealed file is
  * CBC with PKCS#7 and a tag is CMAC; the masks are random, as they change nothing.
  * Prints the seed, which given as an argument repeats the run, and how many comparisons there were.
  */
@@ -10,6 +10,7 @@
 #include <cryptopp/filters.h>
 #include <cryptopp/lea.h>
 #include <cryptopp/modes.h>
+#include <cryptopp/sha.h>
 #include <cstdio>
 #include <cstdlib>
 #include <random>
@@ -18,8 +19,8 @@
 
 using Bytes = std::vector<uint8_t>;
 
-/* Of each size: how many keys have blocks compared, how many blocks of each, and how many keys have books. */
-static const int KEYS = 1000, BLOCKS = 4, BOOKS = 20;
+/* Of each schedule and size: how many keys have blocks compared, how many blocks of each, and how many keys have books. */
+static const int KEYS = 1000, BLOCKS = 4, BOOKS = 10;
 
 /* Messages of every length up to this go through each book. */
 static const size_t SHORT = 100;
@@ -74,20 +75,49 @@ static Bytes random_bytes(size_t n)
     return bytes;
 }
 
+/* One way of LEA of Crypto++ with other round keys: a row for each round, of the digest of the key and the row's number. */
+template <class Way> class one_way : public Way {
+    void UncheckedSetKey(const uint8_t *key, unsigned length, const CryptoPP::NameValuePairs &parameters) override
+    {
+        Way::UncheckedSetKey(key, length, parameters);
+        for (unsigned l = 0; l < this->m_rounds; l++) {
+            const uint8_t number = (uint8_t)(l + 1);
+            uint8_t digest[CryptoPP::SHA256::DIGESTSIZE];
+            CryptoPP::SHA256 hash;
+            hash.Update(key, length);
+            hash.Update(&number, 1);
+            hash.Final(digest);
+            for (unsigned m = 0; m < 6; m++)
+                this->m_rkey[6 * l + m] = CryptoPP::GetWord<uint32_t>(false, CryptoPP::LITTLE_ENDIAN_ORDER, digest + 4 * m);
+        }
+    }
+};
+
+/* The two ciphers of Crypto++, and the numbers of their schedules. */
+struct lea : CryptoPP::LEA {
+    static const uint8_t schedule = BOWLINETTE_SCHEDULE_LEA;
+};
+
+struct wf_lea : CryptoPP::LEA_Info, CryptoPP::BlockCipherDocumentation {
+    typedef CryptoPP::BlockCipherFinal<CryptoPP::ENCRYPTION, one_way<CryptoPP::LEA::Enc>> Encryption;
+    typedef CryptoPP::BlockCipherFinal<CryptoPP::DECRYPTION, one_way<CryptoPP::LEA::Dec>> Decryption;
+    static const uint8_t schedule = BOWLINETTE_SCHEDULE_WF_LEA;
+};
+
 /* Blocks of a key, there and back. */
-static void blocks(const size &size)
+template <class Cipher> static void blocks(const size &size)
 {
     for (int k = 0; k < KEYS; k++) {
         const Bytes key = random_bytes(size.key);
-        CryptoPP::LEA::Encryption there(key.data(), key.size());
-        CryptoPP::LEA::Decryption back(key.data(), key.size());
+        typename Cipher::Encryption there(key.data(), key.size());
+        typename Cipher::Decryption back(key.data(), key.size());
         for (int n = 0; n < BLOCKS; n++) {
             const Bytes block = random_bytes(BLOCK);
             Bytes ours(BLOCK), theirs(BLOCK);
-            done(bowlinette_encipher(key.data(), key.size(), block.data(), BLOCK, ours.data()), "encipher");
+            done(bowlinette_encipher(Cipher::schedule, key.data(), key.size(), block.data(), BLOCK, ours.data()), "encipher");
             there.ProcessBlock(block.data(), theirs.data());
             compare(ours == theirs, counts.enciphered, "encipher", size.key, BLOCK);
-            done(bowlinette_decipher(key.data(), key.size(), block.data(), BLOCK, ours.data()), "decipher");
+            done(bowlinette_decipher(Cipher::schedule, key.data(), key.size(), block.data(), BLOCK, ours.data()), "decipher");
             back.ProcessBlock(block.data(), theirs.data());
             compare(ours == theirs, counts.deciphered, "decipher", size.key, BLOCK);
         }
@@ -116,14 +146,15 @@ static Bytes chain(const size &size)
     return chain;
 }
 
-/* A key, its book and its set. */
+/* A schedule and a key, their book and its set. */
 struct product {
+    uint8_t schedule;
     Bytes key, book, set;
 
-    explicit product(const size &size) : key(random_bytes(size.key)), book(size.book), set(identities(32))
+    product(uint8_t number, const size &size) : schedule(number), key(random_bytes(size.key)), book(size.book), set(identities(32))
     {
         const Bytes codings = chain(size);
-        done(bowlinette_build(key.data(), key.size(), codings.data(), codings.size(), book.data(), book.size()), "build");
+        done(bowlinette_build(schedule, key.data(), key.size(), codings.data(), codings.size(), book.data(), book.size()), "build");
     }
 
     Bytes sealed(const Bytes &iv, const Bytes &message) const
@@ -142,8 +173,8 @@ struct product {
     {
         Bytes out(file.size());
         uint64_t length;
-        done(bowlinette_open(key.data(), key.size(), set.data(), set.size(), iv.data(), BLOCK, file.data(), file.size(),
-                             out.data(), out.size(), &length), "open");
+        done(bowlinette_open(schedule, key.data(), key.size(), set.data(), set.size(), iv.data(), BLOCK, file.data(),
+                             file.size(), out.data(), out.size(), &length), "open");
         out.resize(length);
         return out;
     }
@@ -167,16 +198,16 @@ struct product {
     bool valid(const Bytes &message, const Bytes &tag) const
     {
         uint8_t valid;
-        done(bowlinette_check(key.data(), key.size(), set.data(), set.size(), message.data(), message.size(), tag.data(),
-                              BLOCK, &valid), "check");
+        done(bowlinette_check(schedule, key.data(), key.size(), set.data(), set.size(), message.data(), message.size(),
+                              tag.data(), BLOCK, &valid), "check");
         return valid == BOWLINETTE_VALID;
     }
 };
 
 /* CBC with PKCS#7 of Crypto++. */
-static Bytes their_file(const Bytes &key, const Bytes &iv, const Bytes &message)
+template <class Cipher> static Bytes their_file(const Bytes &key, const Bytes &iv, const Bytes &message)
 {
-    CryptoPP::CBC_Mode<CryptoPP::LEA>::Encryption cbc(key.data(), key.size(), iv.data());
+    typename CryptoPP::CBC_Mode<Cipher>::Encryption cbc(key.data(), key.size(), iv.data());
     Bytes file;
     CryptoPP::VectorSource(message, true,
         new CryptoPP::StreamTransformationFilter(cbc, new CryptoPP::VectorSink(file),
@@ -185,23 +216,23 @@ static Bytes their_file(const Bytes &key, const Bytes &iv, const Bytes &message)
 }
 
 /* CMAC of Crypto++. */
-static Bytes their_tag(const Bytes &key, const Bytes &message)
+template <class Cipher> static Bytes their_tag(const Bytes &key, const Bytes &message)
 {
-    CryptoPP::CMAC<CryptoPP::LEA> cmac(key.data(), key.size());
+    CryptoPP::CMAC<Cipher> cmac(key.data(), key.size());
     Bytes tag(BLOCK);
     cmac.CalculateDigest(tag.data(), message.data(), message.size());
     return tag;
 }
 
 /* A message sealed and tagged on both sides, and what the others made opened and checked. */
-static void whole(const product &ours, const Bytes &message)
+template <class Cipher> static void whole(const product &ours, const Bytes &message)
 {
     const size_t k = ours.key.size(), n = message.size();
     const Bytes iv = random_bytes(BLOCK);
-    const Bytes file = their_file(ours.key, iv, message);
+    const Bytes file = their_file<Cipher>(ours.key, iv, message);
     compare(ours.sealed(iv, message) == file, counts.sealed, "sealing", k, n);
     compare(ours.opened(iv, file) == message, counts.opened, "opening", k, n);
-    Bytes tag = their_tag(ours.key, message);
+    Bytes tag = their_tag<Cipher>(ours.key, message);
     compare(ours.tag(message) == tag, counts.tags, "the tag", k, n);
     compare(ours.valid(message, tag), counts.valid, "checking the tag", k, n);
     tag[below(BLOCK)] ^= (uint8_t)(1 << below(8));
@@ -209,15 +240,15 @@ static void whole(const product &ours, const Bytes &message)
 }
 
 /* For each book short messages and one of some thousand bytes; for one book the longest. */
-static void messages(const size &size)
+template <class Cipher> static void messages(const size &size)
 {
     for (int b = 0; b < BOOKS; b++) {
-        const product ours(size);
+        const product ours(Cipher::schedule, size);
         for (size_t n = 0; n <= SHORT; n++)
-            whole(ours, random_bytes(n));
-        whole(ours, random_bytes(below(20001)));
+            whole<Cipher>(ours, random_bytes(n));
+        whole<Cipher>(ours, random_bytes(below(20001)));
         if (b == 0)
-            whole(ours, random_bytes(LONGEST));
+            whole<Cipher>(ours, random_bytes(LONGEST));
     }
 }
 
@@ -228,8 +259,10 @@ int main(int argc, char **argv)
     printf("peer: seed %llu\n", (unsigned long long)seed);
     random_number.seed(seed);
     for (const size &size : sizes) {
-        blocks(size);
-        messages(size);
+        blocks<lea>(size);
+        messages<lea>(size);
+        blocks<wf_lea>(size);
+        messages<wf_lea>(size);
     }
     printf("peer: %lu blocks enciphered and %lu deciphered, %lu files sealed and %lu opened, %lu tags made, %lu found Valid"
            " and %lu Invalid: all as Crypto++ has them\n",
