@@ -1,7 +1,8 @@
-//! Checking a chain, and building a book or a reading book from a key and a chain.
+//! Checking a chain, and building a book or a reading book from a key, by LEA's schedule, and a chain.
 
 use crate::timing::Times;
 use reference::{book, chain, reading, Size};
+use shared::schedules::LEA;
 use shared::{chains, Random};
 use std::hint::black_box as hide;
 
@@ -24,13 +25,27 @@ impl Given {
     fn build(
         &self,
         room: usize,
-        rattle: fn(&[u8], &[u8], &mut [u8]) -> u32,
+        rattle: fn(u8, &[u8], &[u8], &mut [u8]) -> u32,
         rust: book::Build,
     ) -> Times {
         let (mut out, mut other) = (vec![0; room], vec![0; room]);
         let times = Times::of(
-            || _ = hide(rattle(hide(&self.key), hide(&self.chain), &mut out)),
-            || _ = hide(rust(hide(&self.key), hide(&self.chain), &mut other)),
+            || {
+                _ = hide(rattle(
+                    hide(LEA),
+                    hide(&self.key),
+                    hide(&self.chain),
+                    &mut out,
+                ))
+            },
+            || {
+                _ = hide(rust(
+                    hide(LEA),
+                    hide(&self.key),
+                    hide(&self.chain),
+                    &mut other,
+                ))
+            },
         );
         assert!(out == other);
         times

@@ -8,6 +8,7 @@ use crate::{packed, packed_reading};
 use bowlinette::Session;
 use reference::{driver, lea::Block, reading, Size};
 use shared::lent::{answer, told};
+use shared::schedules::LEA;
 use shared::{books, Random};
 use std::hint::black_box as hide;
 
@@ -33,7 +34,7 @@ impl Given {
     pub fn new(size: Size, n: usize) -> Given {
         let mut random = Random(2);
         Given {
-            book: books::built(size, &mut random).book,
+            book: books::built(LEA, size, &mut random).book,
             coded: random.bytes(n / 16 * 16 + 16),
         }
     }
@@ -41,7 +42,7 @@ impl Given {
     /// What a message of n bytes is when sealed, to be read.
     pub fn sealed(size: Size, n: usize) -> Given {
         let mut random = Random(2);
-        let sealing = books::built(size, &mut random);
+        let sealing = books::built(LEA, size, &mut random);
         Given {
             book: sealing.reading(&mut random).book,
             coded: random.bytes(n / 16 * 16 + 16),

@@ -42,6 +42,9 @@ fn beside(name: &str, first: &[Times; 3], second: &[Times; 3]) -> String {
 fn product() {
     let key = |size: Size| format!("{:>19}", format!("key of {}", size.key_bytes()));
     println!("{:<14}{:>8}{}", "", "message", Size::ALL.map(key).concat());
+    for (schedule, name) in [(0, "LEA"), (1, "WF-LEA")] {
+        row("round_keys", name, |size| parts::round_keys(schedule, size));
+    }
     row("make_chain", "", |size| maker::make(Kind::Sealing, size));
     row("make_reading", "", |size| maker::make(Kind::Reading, size));
     row("check_chain", "", book::check_chain);

@@ -4,6 +4,7 @@ use crate::driver::{self, Shape};
 use crate::timing::{shown, Times};
 use crate::{stack, LENGTHS};
 use reference::{lea, pad, Size};
+use shared::schedules::LEA;
 use shared::{chains, Random};
 use std::hint::black_box as hide;
 
@@ -25,37 +26,58 @@ pub fn heading(bytes: &str, [first, second]: [&str; 2]) {
     );
 }
 
-/// Enciphering and deciphering from key and block, and a whole schedule: neither version knows which
-/// row will be asked for, so both make them all. Then enciphering in a loop over 4,096 blocks.
+/// A whole schedule: neither version knows which row will be asked for, so both make them all.
+pub fn round_keys(schedule: u8, size: Size) -> Times {
+    let (key, mut row) = (Random(4).bytes(size.key_bytes()), [0; 6]);
+    let (key, mut other) = (key.as_slice(), row);
+    let rattle = |row: &mut _| bowlinette::round_keys(hide(schedule), hide(key), hide(0), row);
+    let times = Times::of(
+        || _ = hide(rattle(hide(&mut row))),
+        || other = hide(lea::round_keys(hide(schedule), hide(key), hide(0))).unwrap(),
+    );
+    assert_eq!(row, other);
+    times
+}
+
+/// Enciphering and deciphering from key and block, and enciphering in a loop over 4,096 blocks, by LEA's schedule.
 fn cipher(size: Size) {
     let mut random = Random(4);
     let (key, text) = (random.bytes(size.key_bytes()), random.bytes(65_536));
-    let (key, text, block) = (key.as_slice(), text.as_slice(), &text[..16]);
-    let (mut out, mut row_of_keys) = ([0; 16], [0; 6]);
+    let (key, text, block, mut out) = (key.as_slice(), text.as_slice(), &text[..16], [0; 16]);
     let encipher = Times::of(
-        || _ = hide(bowlinette::encipher(hide(key), hide(block), hide(&mut out))),
-        || _ = hide(lea::encipher(hide(key), hide(block))),
+        || {
+            _ = hide(bowlinette::encipher(
+                LEA,
+                hide(key),
+                hide(block),
+                hide(&mut out),
+            ))
+        },
+        || _ = hide(lea::encipher(hide(LEA), hide(key), hide(block))),
     );
     row("encipher", key.len(), encipher);
     let decipher = Times::of(
-        || _ = hide(bowlinette::decipher(hide(key), hide(block), hide(&mut out))),
-        || _ = hide(lea::decipher(hide(key), hide(block))),
-    );
-    row("decipher", key.len(), decipher);
-    let schedule = Times::of(
         || {
-            _ = hide(bowlinette::round_keys(
+            _ = hide(bowlinette::decipher(
+                LEA,
                 hide(key),
-                hide(0),
-                hide(&mut row_of_keys),
+                hide(block),
+                hide(&mut out),
             ))
         },
-        || _ = hide(lea::round_keys(hide(key), hide(0))),
+        || _ = hide(lea::decipher(hide(LEA), hide(key), hide(block))),
     );
-    row("schedule", key.len(), schedule);
+    row("decipher", key.len(), decipher);
     let mac = Times::of(
-        || _ = hide(bowlinette::cbc_mac(hide(key), hide(text), hide(&mut out))),
-        || _ = hide(lea::cbc_mac(hide(key), hide(text))),
+        || {
+            _ = hide(bowlinette::cbc_mac(
+                LEA,
+                hide(key),
+                hide(text),
+                hide(&mut out),
+            ))
+        },
+        || _ = hide(lea::cbc_mac(hide(LEA), hide(key), hide(text))),
     );
     row("CBC-MAC 65536", key.len(), mac);
 }

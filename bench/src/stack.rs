@@ -9,6 +9,7 @@ use shared::archive::sealed_text;
 use shared::books::{self, Built};
 use shared::chains::Kind;
 use shared::ink::proved;
+use shared::schedules::EACH;
 use shared::Random;
 use std::arch::asm;
 use std::ptr::{read_volatile, write_volatile};
@@ -57,13 +58,13 @@ struct Given {
 }
 
 impl Given {
-    fn new(size: Size) -> Given {
+    fn new((schedule, size): (u8, Size)) -> Given {
         let mut random = Random(6);
-        let built = books::built(size, &mut random);
+        let built = books::built(schedule, size, &mut random);
         let reading = built.reading(&mut random);
         let (message, block) = (random.bytes(LENGTHS[1]), random.block());
         let coded = [message.as_slice(), &[1]].concat();
-        let sealed = sealed_text(&built.key, built.last_set(), &block, &coded);
+        let sealed = sealed_text(schedule, &built.key, built.last_set(), &block, &coded);
         Given {
             built,
             reading,
@@ -77,24 +78,25 @@ impl Given {
 
 /// The operations on a key, a chain and a block.
 fn of_keys(g: &Given) -> Vec<(&'static str, usize)> {
-    let (key, chain, block) = (&g.built.key, &g.built.chain, &g.block);
+    let (schedule, key) = (g.built.schedule, &g.built.key);
+    let (chain, block) = (&g.built.chain, &g.block);
     let (mut out, mut row) = ([0; 16], [0; 6]);
     let (mut book, mut tables) = (g.built.book.clone(), vec![0; ROUND]);
-    let encipher = || bowlinette::encipher(key, block, &mut out);
-    let round_keys = || bowlinette::round_keys(key, 0, &mut row);
-    let build = || bowlinette::build(key, chain, &mut book);
-    let build_round = || bowlinette::build_round(key, chain, 0, &mut tables);
+    let encipher = || bowlinette::encipher(schedule, key, block, &mut out);
+    let round_keys = || bowlinette::round_keys(schedule, key, 0, &mut row);
+    let build = || bowlinette::build(schedule, key, chain, &mut book);
+    let build_round = || bowlinette::build_round(schedule, key, chain, 0, &mut tables);
     let (reading, mut reading_book) = (&g.reading.chain, g.reading.book.clone());
-    let build_reading = || bowlinette::build_reading(key, reading, &mut reading_book);
+    let build_reading = || bowlinette::build_reading(schedule, key, reading, &mut reading_book);
     vec![
         ("encipher", used(encipher)),
         (
             "decipher",
-            used(|| bowlinette::decipher(key, block, &mut out)),
+            used(|| bowlinette::decipher(schedule, key, block, &mut out)),
         ),
         (
             "first_rounds",
-            used(|| bowlinette::first_rounds(key, 99, block, &mut out)),
+            used(|| bowlinette::first_rounds(schedule, key, 99, block, &mut out)),
         ),
         ("round_keys", used(round_keys)),
         ("check_set", used(|| bowlinette::check_set(&chain[..SET]))),
@@ -155,21 +157,32 @@ fn of_books(g: &Given) -> Vec<(&'static str, usize)> {
 
 /// The operations on a message.
 fn of_messages(g: &Given) -> Vec<(&'static str, usize)> {
-    let (key, u, set) = (&g.built.key, g.built.message_set(), g.built.last_set());
+    let (schedule, key) = (g.built.schedule, &g.built.key);
+    let (u, set) = (g.built.message_set(), g.built.last_set());
     let (mut out, mut length, mut small) = (vec![0; g.coded.len()], 0, 0);
     let mut tag_code = out.clone();
     let sealing = || bowlinette::code_for_sealing(u, &g.message, &mut out, &mut length);
     let sealing = used(sealing);
     let tag = || bowlinette::code_for_tag(u, &g.message, &mut tag_code, &mut length, &mut small);
     let tag = used(tag);
-    let open = || bowlinette::open(key, set, &g.block, &g.sealed, &mut out, &mut length);
+    let open = || {
+        bowlinette::open(
+            schedule,
+            key,
+            set,
+            &g.block,
+            &g.sealed,
+            &mut out,
+            &mut length,
+        )
+    };
     vec![
         ("code_for_sealing", sealing),
         ("code_for_tag", tag),
         ("open", used(open)),
         (
             "check",
-            used(|| bowlinette::check(key, set, &g.message, &g.block, &mut small)),
+            used(|| bowlinette::check(schedule, key, set, &g.message, &g.block, &mut small)),
         ),
     ]
 }
@@ -184,10 +197,10 @@ fn of_ink() -> Vec<(&'static str, usize)> {
     vec![("read_ink", used(read)), ("write_ink", used(write))]
 }
 
-/// How many bytes each operation uses, with the key with which it uses most; the most first.
+/// How many bytes each operation uses, with the schedule and the key with which it uses most; the most first.
 pub fn most() -> Vec<(&'static str, usize)> {
     let mut most = of_ink();
-    for given in Size::ALL.map(Given::new) {
+    for given in EACH.map(Given::new) {
         let operations = [
             of_keys(&given),
             of_makers(given.built.size()),
