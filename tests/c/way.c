@@ -336,6 +336,7 @@ static void archive(const struct size *s, size_t n)
     CHECK(verdict == BOWLINETTE_VALID);
     CHECK(bowlinette_is_valid(schedule, key, s->key, set, SET, message, n, tag, BLOCK) == 1);
     CHECK(bowlinette_is_valid(!schedule, key, s->key, set, SET, message, n, tag, BLOCK) == 0);
+    CHECK(bowlinette_is_valid((uint8_t)(schedule + 2), key, s->key, set, SET, message, n, tag, BLOCK) == 0);
     tag[n % BLOCK] ^= 0x10;
     CHECK(bowlinette_check(schedule, key, s->key, set, SET, message, n, tag, BLOCK, &verdict) == BOWLINETTE_DONE);
     CHECK(verdict == BOWLINETTE_INVALID);

@@ -3,12 +3,13 @@
 //! those of document 000 is tested in lists.rs, and each operation by both schedules beside its other tests.
 
 use reference::book::{ADD, FRONT, GROUP, ROUND, START, TURN};
-use reference::chain::{MIDDLES, SET};
+use reference::chain::{self, MIDDLES, SET};
 use reference::{lea, Size};
 use shared::archive::{check, open, sealed_text};
 use shared::book::{build, build_reading, build_round};
 use shared::books::{self, Built, ROUNDS};
 use shared::chains::{self, KINDS};
+use shared::cmac::cmac;
 use shared::lent::written;
 use shared::pad::padded;
 use shared::roundtrip;
@@ -38,23 +39,26 @@ struct Given {
     chains: [Vec<u8>; 2],
     set: Vec<u8>,
     block: Vec<u8>,
+    tag: Vec<u8>,
     sealed: Vec<u8>,
     message: Vec<u8>,
     rooms: [usize; 4],
 }
 
 impl Given {
-    /// Of which nothing is refused by a schedule.
+    /// Of which nothing is refused by a schedule; the tag is that of the message.
     fn new(schedule: u8, size: Size, random: &mut Random) -> Given {
         let (key, set) = (random.bytes(size.key_bytes()), chains::set(random));
         let (block, message) = (random.bytes(16), random.bytes(40));
         let sealed = sealed_text(schedule, &key, &set, &block, &padded(&message));
+        let tag = chain::code(&set, &cmac(schedule, &key, &message)).to_vec();
         Given {
             chains: KINDS.map(|kind| kind.random(size, random)),
             rooms: [size.book_bytes(), size.reading_bytes(), ROUND, sealed.len()],
             key,
             set,
             block,
+            tag,
             sealed,
             message,
         }
@@ -85,7 +89,7 @@ impl Given {
         let archive = [
             cbc_mac(schedule, key, &self.message).err(),
             open(schedule, key, &self.set, block, &self.sealed, room).err(),
-            check(schedule, key, &self.set, &self.message, block).err(),
+            check(schedule, key, &self.set, &self.message, &self.tag).err(),
         ];
         let whole = [
             build(schedule, key, chain, book).0,
@@ -101,13 +105,14 @@ impl Given {
 }
 
 /// Each makes some operation refuse.
-const WRONGS: [fn(&mut Given); 9] = [
+const WRONGS: [fn(&mut Given); 10] = [
     |g| g.key.push(7),
     |g| g.key.clear(),
     |g| g.chains.iter_mut().for_each(|chain| chain.push(0)),
     |g| g.chains.iter_mut().for_each(|chain| chain[SET] = 16),
     |g| g.set.truncate(SET - 1),
     |g| g.block.push(7),
+    |g| g.tag.push(7),
     |g| g.sealed.clear(),
     |g| g.message.resize(1_048_576, 7),
     |g| g.rooms = [0; 4],
