@@ -55,7 +55,7 @@ extern "C" {
 
 /*
  * The schedule that makes the round keys of a key: LEA's, or the one-way one of WF-LEA, whose round keys are cut
- * from SHA-256 digests, so that they do not lead back to the key. It is told to every function that is given the
+ * from SHA-256 digests, so that the key is not to be worked back from them. It is told to every function that is given the
  * key; no book and no file states it. All that is built, opened and checked for one pad must go by the same one.
  */
 #define BOWLINETTE_SCHEDULE_LEA 0
