@@ -123,7 +123,9 @@ module _ (schedule : ℕ) (key ch out held : List ℕ) (built : Built schedule k
   built-body = ap bookBody built-is
 
   pub built-book : Book (keyRounds key) (keyRows (scheduleOf schedule) (keySize key) key) ch (bookBody (bookIn key held))
-  built-book = subst (λ (b : List ℕ). Book (keyRounds key) (keyRows (scheduleOf schedule) (keySize key) key) ch b) (sym built-body) (book-made (keyRounds key) (keyRows (scheduleOf schedule) (keySize key) key) ch)
+  built-book =
+      let rows = keyRows (scheduleOf schedule) (keySize key) key in
+      subst (λ (b : List ℕ). Book (keyRounds key) rows ch b) (sym built-body) (book-made (keyRounds key) rows ch)
 
   -- it is admitted
   pub built-found : admitAnswer (bookIn key held) ≡ (0, Found (keySize key))

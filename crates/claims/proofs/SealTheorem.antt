@@ -44,6 +44,9 @@ module _ (schedule : ℕ) (key ch out held : List ℕ) (built : Built schedule k
   abbrev book : List ℕ
   book = bookIn key held
 
+  abbrev rows : List (List ℕ)
+  rows = keyRows (scheduleOf schedule) (keySize key) key
+
   abbrev padded : List ℕ
   padded = paddedForSealing m
 
@@ -63,7 +66,7 @@ module _ (schedule : ℕ) (key ch out held : List ℕ) (built : Built schedule k
   pub file-length : length (fileOf (padSet ch) (bookIn key held) iv m) ≡ length (paddedForSealing m)
   file-length =
       ap (λ (c : List ℕ). length (sealed (bookBody book) iv c)) code-is
-      ∙ length-file (keySize key) (keyRows (scheduleOf schedule) (keySize key) key) ch (bookBody book) valid made (key-words (scheduleOf schedule) (keySize key) key hk) iv padded (length m / 16 + 1) (sealing-blocks m)
+      ∙ length-file (keySize key) rows ch (bookBody book) valid made (key-words (scheduleOf schedule) (keySize key) key hk) iv padded (length m / 16 + 1) (sealing-blocks m)
 
   good : (n : ℕ) → n ≡ length padded → badText n ≡ false
   good n e =
@@ -75,8 +78,9 @@ module _ (schedule : ℕ) (key ch out held : List ℕ) (built : Built schedule k
   pub opened-is : openedText (decipher (scheduleOf schedule) (keySize key) key) (setOf (archiveSet key ch)) iv (fileOf (padSet ch) (bookIn key held) iv m) ≡ paddedForSealing m
   unfolding openedText
   opened-is =
-      ap₂ (λ (d : List ℕ → List ℕ) (c : List ℕ). flatten (cbcDeciphered (decipher (scheduleOf schedule) (keySize key) key) (d iv) (map d (blocks (sealed (bookBody book) iv c))))) (archive-decoded key ch valid) code-is
-      ∙ opened-sealed (keySize key) (keyRows (scheduleOf schedule) (keySize key) key) ch (bookBody book) valid made (key-words (scheduleOf schedule) (keySize key) key hk) iv padded (length m / 16 + 1) (sealing-blocks m)
+      ap₂ (λ (d : List ℕ → List ℕ) (c : List ℕ). flatten (cbcDeciphered (decipher (scheduleOf schedule) (keySize key) key) (d iv)
+      (map d (blocks (sealed (bookBody book) iv c))))) (archive-decoded key ch valid) code-is
+      ∙ opened-sealed (keySize key) rows ch (bookBody book) valid made (key-words (scheduleOf schedule) (keySize key) key hk) iv padded (length m / 16 + 1) (sealing-blocks m)
       (sealing-bytes m hm)
 
   message-back : unpadded (openedText (decipher (scheduleOf schedule) (keySize key) key) (setOf s) iv (fileOf u book iv m)) ≡ m
@@ -111,7 +115,7 @@ module _ (schedule : ℕ) (key ch out held : List ℕ) (built : Built schedule k
   blocks-enciphered : map (decoded (setOf s)) (blocks (fileOf u book iv m)) ≡ cbcEnciphered (encipher (scheduleOf schedule) (keySize key) key) (decoded (setOf s) iv) (blocks padded)
   blocks-enciphered =
       ap₂ (λ (d : List ℕ → List ℕ) (c : List ℕ). map d (blocks (sealed (bookBody book) iv c))) (archive-decoded key ch valid) code-is
-      ∙ enciphered-sealed (keySize key) (keyRows (scheduleOf schedule) (keySize key) key) ch (bookBody book) valid made (key-words (scheduleOf schedule) (keySize key) key hk) iv padded (length m / 16 + 1) (sealing-blocks m)
+      ∙ enciphered-sealed (keySize key) rows ch (bookBody book) valid made (key-words (scheduleOf schedule) (keySize key) key hk) iv padded (length m / 16 + 1) (sealing-blocks m)
       (sealing-bytes m hm)
       ∙ ap (λ (d : List ℕ → List ℕ). cbcEnciphered (encipher (scheduleOf schedule) (keySize key) key) (d iv) (blocks padded)) (sym (archive-decoded key ch valid))
 

@@ -119,4 +119,5 @@ module _ (z : KeySize) (rows : List (List ℕ)) (ch bk : List ℕ) (v : Chain z 
 pub session-built : (schedule : ℕ) (key ch out held : List ℕ) → Built schedule key ch out held → (cs : List Call)
     → driverAnswers (bookIn key held) cs ≡ modelAnswers (encipher (scheduleOf schedule) (keySize key) key) (messageSet ch) (chainSet ch (keyRounds key)) cs
 session-built schedule key ch out held b cs =
-    session (keySize key) (keyRows (scheduleOf schedule) (keySize key) key) ch (bookIn key held) (built-chain schedule key ch out held b) (built-book schedule key ch out held b) (built-found schedule key ch out held b) cs
+    session (keySize key) (keyRows (scheduleOf schedule) (keySize key) key) ch (bookIn key held) (built-chain schedule key ch out held b)
+    (built-book schedule key ch out held b) (built-found schedule key ch out held b) cs

@@ -58,7 +58,8 @@ module _ (schedule : ℕ) (key ch bk : List ℕ) where
   answer-is : buildAnswer schedule key ch bk ≡ first (buildCallTests schedule key ch bk) (λ q. (q, bk)) (0, over (keyBook schedule key ch) bk)
   unfolding builtInto
   answer-is =
-      ap (λ (n : ℕ). first (buildCallTests schedule key ch bk) (λ q. (q, bk)) (0, keyBook schedule key ch ++ drop n bk)) (sym (whole-length (keySize key) (keyRows (scheduleOf schedule) (keySize key) key) ch))
+      ap (λ (n : ℕ). first (buildCallTests schedule key ch bk) (λ q. (q, bk)) (0, keyBook schedule key ch ++ drop n bk))
+      (sym (whole-length (keySize key) (keyRows (scheduleOf schedule) (keySize key) key) ch))
 
   -- building gave r, and held is what the buffer then holds
   module _ (held : List ℕ) (r : Outcome) (e : (outcomeOf r, held) ≡ buildAnswer schedule key ch bk) where
