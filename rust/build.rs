@@ -1,0 +1,7 @@
+//! Links the product's library.
+
+include!("link.rs");
+
+fn main() {
+    link("..", "bowlinette");
+}
