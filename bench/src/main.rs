@@ -1,10 +1,12 @@
 //! Times the proved library and a Rust version of it in one process and prints how they compare: what the
 //! product does in one table and, with the word `all`, the parts by themselves in a second. Where an earlier
-//! library is linked too (bench/run), a row of the first table is beside that one.
+//! library is linked too (bench/run), a row of the first table is beside that one. With the word `commands` it
+//! times the command `bowlinette` beside the library's calls, and nothing else.
 
 mod archive;
 mod before;
 mod book;
+mod commands;
 mod driver;
 mod ink;
 mod maker;
@@ -82,13 +84,19 @@ fn product() {
 }
 
 fn main() {
+    let words: Vec<String> = std::env::args().skip(1).collect();
+    if let [word, command, folder] = words.as_slice() {
+        if word == "commands" {
+            return commands::print(command, folder);
+        }
+    }
     let load = std::fs::read_to_string("/proc/loadavg").unwrap_or_default();
     let load = load.split(' ').next().unwrap_or_default();
     println!(
         "Time of the proved library, and its ratio to the Rust version's (load average {load})"
     );
     product();
-    if std::env::args().nth(1).as_deref() == Some("all") {
+    if words.first().map(String::as_str) == Some("all") {
         parts::print();
     }
 }

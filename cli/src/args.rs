@@ -123,7 +123,7 @@ impl Args {
         self.all(name).next().ok_or_else(missing)
     }
 
-    /// The number that an option has, within bounds.
+    /// The number that an option has, within bounds, in no more digits than the upper one has.
     pub fn number(
         &self,
         name: &'static str,
@@ -133,8 +133,9 @@ impl Args {
             Some(value) => value.to_string_lossy(),
             None => return Ok(None),
         };
+        let most = bounds.end().to_string().len();
         match number(&value) {
-            Some(number) if bounds.contains(&number) => Ok(Some(number)),
+            Some(number) if bounds.contains(&number) && value.len() <= most => Ok(Some(number)),
             _ => usage(format!(
                 "{name} {value} is no number from {} to {}",
                 bounds.start(),

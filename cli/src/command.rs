@@ -57,7 +57,7 @@ const VERSION: &str = concat!(
 
 /// Runs the command with its arguments: the exit status.
 pub fn run(arguments: &[OsString]) -> u8 {
-    system::no_core();
+    system::begin();
     let (name, answer) = called(arguments);
     answer.unwrap_or_else(|failure| {
         let name = name.map_or(String::new(), |name| format!(" {name}"));

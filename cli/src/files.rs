@@ -52,7 +52,20 @@ impl Source {
         if self.piped {
             return front(&mut streams::input()?, most);
         }
-        front(&mut File::open(&self.named.place)?, most)
+        let mut file = File::open(&self.named.place)?;
+        let length = file.metadata()?.len() as usize;
+        // A length of 0 may be that of a pipe or a device.
+        if length == 0 || length >= most {
+            return front(&mut file, most);
+        }
+        let bytes = front(&mut file, length + 1)?;
+        if bytes.len() > length {
+            return Err(io::Error::new(
+                ErrorKind::Other,
+                "it grew while it was read",
+            ));
+        }
+        Ok(bytes)
     }
 }
 

@@ -69,7 +69,7 @@ fn run(args: &Args) -> Result<u8, Failure> {
         message: Source::new("the message", args.operand(0).unwrap_or_default()),
     };
     let (iv, sealed, tag) = counter.sealed()?;
-    let mut file = vec![0; INK_MAX];
+    let mut file = Secret::zeros(INK_MAX - CODE_MAX + sealed.len());
     let length = ink::write(&bytes, [&iv, &sealed, &tag], &remarks, &mut file)
         .map_err(|refused| number.named.refused(refused))?;
     output.write(&file[..length])?;
@@ -169,7 +169,7 @@ fn answer(number: u32) -> Result<(), u32> {
 
 /// The message coded and sealed.
 fn seal(set: &[u8], book: &[u8], iv: &[u8], message: &[u8]) -> Result<Secret, u32> {
-    let (mut coded, mut length) = (Secret::zeros(CODE_MAX), 0);
+    let (mut coded, mut length) = (Secret::zeros(message.len() + BLOCK), 0);
     answer(guarded(|| {
         libbowlinette::code_for_sealing(set, message, &mut coded, &mut length)
     }))?;
@@ -183,7 +183,7 @@ fn seal(set: &[u8], book: &[u8], iv: &[u8], message: &[u8]) -> Result<Secret, u3
 
 /// The message's tag: coded, and taken through a session.
 fn tag(set: &[u8], book: &[u8], message: &[u8]) -> Result<[u8; BLOCK], u32> {
-    let (mut coded, mut length, mut kind) = (Secret::zeros(CODE_MAX), 0, 0);
+    let (mut coded, mut length, mut kind) = (Secret::zeros(message.len() + BLOCK), 0, 0);
     answer(guarded(|| {
         libbowlinette::code_for_tag(set, message, &mut coded, &mut length, &mut kind)
     }))?;

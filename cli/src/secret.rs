@@ -3,20 +3,38 @@
 use std::ops::{Deref, DerefMut};
 use std::ptr;
 
+use crate::system;
+
 /// The stack that a call of the library may have used, and more: the largest uses under 9 KiB.
 const STACK: usize = 16 * 1024;
+
+/// A huge page.
+const HUGE: usize = 2 << 20;
 
 /// Bytes that nobody finds in memory after they were dropped. They never move.
 pub struct Secret {
     room: Box<[u8]>,
+    start: usize,
+    most: usize,
     length: usize,
 }
 
 impl Secret {
-    /// So many zeros.
+    /// So many zeros. Many are put into one huge page: the memory of 1 MiB is then there at once, not in 256 parts.
     pub fn zeros(length: usize) -> Secret {
-        let room = vec![0; length].into_boxed_slice();
-        Secret { room, length }
+        let spare = if length < HUGE / 4 { 0 } else { 2 * HUGE };
+        let room = vec![0; length + spare].into_boxed_slice();
+        let mut start = 0;
+        if spare > 0 {
+            start = room.as_ptr().align_offset(HUGE);
+            system::in_huge_pages(&room[start..start + HUGE]);
+        }
+        Secret {
+            room,
+            start,
+            most: length,
+            length,
+        }
     }
 
     /// Keeps the first bytes; those behind them stay to be overwritten.
@@ -29,19 +47,19 @@ impl Deref for Secret {
     type Target = [u8];
 
     fn deref(&self) -> &[u8] {
-        &self.room[..self.length]
+        &self.room[self.start..][..self.length]
     }
 }
 
 impl DerefMut for Secret {
     fn deref_mut(&mut self) -> &mut [u8] {
-        &mut self.room[..self.length]
+        &mut self.room[self.start..][..self.length]
     }
 }
 
 impl Drop for Secret {
     fn drop(&mut self) {
-        wipe(&mut self.room);
+        wipe(&mut self.room[self.start..][..self.most]);
     }
 }
 

@@ -3,14 +3,14 @@
 use std::ffi::CString;
 use std::fs::File;
 use std::io;
-use std::os::raw::{c_char, c_int, c_uint};
+use std::os::raw::{c_char, c_int, c_uint, c_void};
 use std::os::unix::ffi::OsStrExt;
 use std::os::unix::io::AsRawFd;
 use std::path::Path;
 use std::sync::atomic::{AtomicBool, Ordering};
 
 mod c {
-    use super::{c_char, c_int, c_uint};
+    use super::{c_char, c_int, c_uint, c_void};
 
     #[repr(C)]
     pub struct Limit {
@@ -23,7 +23,8 @@ mod c {
         pub fn fcntl(stream: c_int, command: c_int, ...) -> c_int;
         pub fn flock(file: c_int, operation: c_int) -> c_int;
         pub fn setrlimit(resource: c_int, limit: *const Limit) -> c_int;
-        pub fn signal(number: c_int, handler: extern "C" fn(c_int)) -> usize;
+        pub fn madvise(start: *mut c_void, length: usize, advice: c_int) -> c_int;
+        pub fn signal(number: c_int, handler: usize) -> usize;
         pub fn renameat2(
             from_folder: c_int,
             from: *const c_char,
@@ -55,15 +56,29 @@ pub fn lock(file: &File) -> bool {
     unsafe { c::flock(file.as_raw_fd(), ALONE_AT_ONCE) == 0 }
 }
 
-/// That this process leaves no core file, which would have its secrets.
-pub fn no_core() {
+/// Before anything is read: no core file, which would have secrets, and a file that grows over a limit is an error of
+/// its writing, which does not end the program.
+pub fn begin() {
     const RLIMIT_CORE: c_int = 4;
+    const SIGXFSZ: c_int = 25;
+    const SIG_IGN: usize = 1;
     let none = c::Limit {
         current: 0,
         most: 0,
     };
-    // Where the system does not grant it, the limit that there is stays.
-    unsafe { c::setrlimit(RLIMIT_CORE, &none) };
+    // Where the system does not grant it, what there is stays.
+    unsafe {
+        c::setrlimit(RLIMIT_CORE, &none);
+        c::signal(SIGXFSZ, SIG_IGN);
+    }
+}
+
+/// Asks for huge pages for memory that was not used yet. Where there are none it is as slow as ever.
+pub fn in_huge_pages(memory: &[u8]) {
+    const MADV_HUGEPAGE: c_int = 14;
+    // Sound because the advice changes no byte.
+    let start = memory.as_ptr() as *mut c_void;
+    unsafe { c::madvise(start, memory.len(), MADV_HUGEPAGE) };
 }
 
 static STOPPED: AtomicBool = AtomicBool::new(false);
@@ -75,9 +90,10 @@ extern "C" fn stop(_: c_int) {
 /// From now on the signals by which a person or the system ends a program are noted, and do not end it.
 pub fn note_signals() {
     const HANGUP_INTERRUPT_TERMINATE: [c_int; 3] = [1, 2, 15];
+    let handler = stop as extern "C" fn(c_int);
     for number in HANGUP_INTERRUPT_TERMINATE {
         // Sound because the handler does nothing but store into an atomic.
-        unsafe { c::signal(number, stop) };
+        unsafe { c::signal(number, handler as usize) };
     }
 }
 
