@@ -15,7 +15,7 @@ use std::process::{Command, Stdio};
 use std::time::Instant;
 
 const PADS: usize = 300;
-const RUNS: usize = 12;
+const RUNS: usize = 20;
 const LONGEST: usize = 1_048_575;
 const PAD: &str = "00000001";
 
@@ -195,18 +195,20 @@ fn open(key: &[u8], set: &[u8], file: &[u8], room: &mut [u8]) -> u32 {
     bowlinette::is_valid(LEA, key, set, message, tag)
 }
 
-fn beside(name: &str, size: Size, command: f64, calls: f64) {
+/// A command beside the calls, whole, and without what it takes to start one that does nothing.
+fn beside(name: &str, size: Size, [command, start, calls]: [f64; 3]) {
     println!(
-        "{name} of {LONGEST} bytes, key of {}: the calls {}, the command {}: {:.2}",
+        "{name} of {LONGEST} bytes, key of {}: the calls {}, the command {}: {:.2}, without its start {:.2}",
         size.key_bytes(),
         shown(calls),
         shown(command),
-        command / calls
+        command / calls,
+        (command - start) / calls,
     );
 }
 
 /// The longest message sealed and opened.
-fn longest(bench: &Bench, size: Size) {
+fn longest(bench: &Bench, size: Size, start: f64) {
     let message = Random(2).bytes(LONGEST);
     fs::write(bench.folder.join("message"), &message).expect("a message");
     bench.remove("pads");
@@ -219,7 +221,7 @@ fn longest(bench: &Bench, size: Size) {
         "seal", "--pad", pad, "--driver", driver, "message", "-o", "ink",
     ];
     let command = fastest(|| bench.remove("ink"), || bench.run(&arguments));
-    beside("seal", size, command, calls);
+    beside("seal", size, [command, start, calls]);
 
     let (key, set) = (bench.read("archive/key"), bench.read("archive/last-set"));
     let file = fs::read(bench.folder.join("ink")).expect("an ink file");
@@ -229,7 +231,7 @@ fn longest(bench: &Bench, size: Size) {
     let archive = &format!("pads/{PAD}/archive");
     let arguments = ["open", "--archive", archive, "ink", "-o", "opened"];
     let command = fastest(|| bench.remove("opened"), || bench.run(&arguments));
-    beside("open", size, command, calls);
+    beside("open", size, [command, start, calls]);
 }
 
 /// All of it, by the command at a path, in a folder.
@@ -239,9 +241,11 @@ pub fn print(command: &str, folder: &str) {
     let command = fs::canonicalize(command).expect("the command");
     let bench = Bench { command, folder };
     let cores = std::thread::available_parallelism().map_or(1, |cores| cores.get());
+    let start = fastest(|| (), || bench.run(&["--version"]));
+    println!("a command that does nothing: {}", shown(start));
     for size in Size::ALL {
         pallet(&bench, size, cores);
-        longest(&bench, size);
+        longest(&bench, size, start);
     }
     fs::remove_dir_all(&bench.folder).expect("the folder goes");
 }

@@ -50,15 +50,15 @@ impl Source {
 
     fn bytes(&self, most: usize) -> io::Result<Secret> {
         if self.piped {
-            return front(&mut streams::input()?, most);
+            return front(streams::input, most);
         }
         let mut file = File::open(&self.named.place)?;
         let length = file.metadata()?.len() as usize;
         // A length of 0 may be that of a pipe or a device.
         if length == 0 || length >= most {
-            return front(&mut file, most);
+            return front(|room| file.read(room), most);
         }
-        let bytes = front(&mut file, length + 1)?;
+        let bytes = front(|room| file.read(room), length + 1)?;
         if bytes.len() > length {
             return Err(io::Error::new(
                 ErrorKind::Other,
@@ -70,13 +70,13 @@ impl Source {
 }
 
 /// The first bytes that a stream has, straight into their buffer.
-fn front(stream: &mut dyn Read, most: usize) -> io::Result<Secret> {
+fn front(mut read: impl FnMut(&mut [u8]) -> io::Result<usize>, most: usize) -> io::Result<Secret> {
     let mut bytes = Secret::zeros(most);
     let mut length = 0;
     while length < most {
-        match stream.read(&mut bytes[length..]) {
+        match read(&mut bytes[length..]) {
             Ok(0) => break,
-            Ok(read) => length += read,
+            Ok(count) => length += count,
             Err(error) if error.kind() == ErrorKind::Interrupted => (),
             Err(error) => return Err(error),
         }

@@ -1,8 +1,11 @@
 //! Standard input and output. A stream that was closed when the program began is an error, as it is for other
-//! programs, and no empty input or lost output.
+//! programs, and no empty input or lost output. Nothing goes through a buffer, in which it would stay.
 
+use std::fs::File;
 use std::io::{self, Read, Write};
+use std::mem::ManuallyDrop;
 use std::os::raw::c_int;
+use std::os::unix::io::FromRawFd;
 use std::sync::atomic::{AtomicBool, Ordering};
 
 use crate::failure::{Failure, Named};
@@ -20,24 +23,23 @@ pub extern "C" fn note_closed() {
     }
 }
 
-fn open(stream: usize) -> io::Result<()> {
+fn open(stream: usize) -> io::Result<ManuallyDrop<File>> {
     if CLOSED[stream].load(Ordering::Relaxed) {
         return Err(io::Error::from_raw_os_error(system::EBADF));
     }
-    Ok(())
+    // Sound because the stream is open, and is not closed when the file is dropped, as it never is.
+    let file = unsafe { File::from_raw_fd(stream as c_int) };
+    Ok(ManuallyDrop::new(file))
 }
 
-/// Standard input.
-pub fn input() -> io::Result<impl Read> {
-    open(INPUT).map(|()| io::stdin())
+/// The front of standard input, as much of it as there is room for at once: how many bytes were read.
+pub fn input(room: &mut [u8]) -> io::Result<usize> {
+    open(INPUT)?.read(room)
 }
 
 /// Writes to standard output.
 pub fn output(bytes: &[u8]) -> io::Result<()> {
-    open(OUTPUT)?;
-    let mut out = io::stdout();
-    out.write_all(bytes)?;
-    out.flush()
+    open(OUTPUT)?.write_all(bytes)
 }
 
 /// Prints a command's result.
