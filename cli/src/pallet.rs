@@ -1,6 +1,5 @@
 //! The works: a folder for each pad of a pallet.
 
-use std::fs::File;
 use std::io;
 use std::path::Path;
 use std::sync::atomic::{AtomicU64, Ordering};
@@ -12,8 +11,8 @@ use crate::failure::{Failure, Named, DONE};
 use crate::progress::Progress;
 use crate::sizes::{schedule_told, Size};
 use crate::staging::Staging;
-use crate::system;
-use crate::works::{Works, GENERATOR};
+use crate::system::{self, Generator};
+use crate::works::Works;
 
 pub const COMMAND: Command = Command {
     name: "pallet",
@@ -143,8 +142,6 @@ fn make_some(
     progress: &Progress,
     next: &AtomicU64,
 ) -> Result<(), Failure> {
-    let named = Named::new("the generator", GENERATOR);
-    let mut generator = File::open(GENERATOR).map_err(|error| named.failed(error))?;
     let mut works = Works::new(order.schedule, order.size);
     while !system::stopped() {
         let place = next.fetch_add(1, Ordering::Relaxed);
@@ -152,7 +149,7 @@ fn make_some(
             break;
         }
         let number = order.number(place);
-        works.make(&mut generator)?;
+        works.make(&mut Generator)?;
         staging.put(&number, &works.files(&number))?;
         progress.add();
     }

@@ -1,8 +1,6 @@
 //! Pad and driver: a message coded, sealed and tagged, and written as one ink file.
 
 use std::ffi::{OsStr, OsString};
-use std::fs::File;
-use std::io::Read;
 use std::os::unix::ffi::OsStrExt;
 use std::thread;
 
@@ -13,7 +11,8 @@ use crate::files::{Output, Source, ANYONE};
 use crate::ink::{self, Remark};
 use crate::secret::{guarded, Secret};
 use crate::sizes::{CODE_MAX, INK_MAX, LARGEST, MESSAGE_MAX, SET};
-use crate::works::GENERATOR;
+use crate::system::Generator;
+use crate::works::fill;
 
 pub const COMMAND: Command = Command {
     name: "seal",
@@ -129,7 +128,8 @@ impl Counter {
         let set = self.set.read(SET)?;
         let book = self.book.read(LARGEST.book())?;
         let message = self.message.read(MESSAGE_MAX)?;
-        let iv = fresh_iv()?;
+        let mut iv = [0; BLOCK];
+        fill(&mut Generator, &mut iv)?;
         thread::scope(|scope| {
             let tag = scope.spawn(|| tag(&set, &book, &message));
             let sealed = seal(&set, &book, &iv, &message);
@@ -149,14 +149,6 @@ impl Counter {
             _ => &self.message.named,
         }
     }
-}
-
-/// An IV that nobody can foretell.
-fn fresh_iv() -> Result<[u8; BLOCK], Failure> {
-    let mut iv = [0; BLOCK];
-    let read = File::open(GENERATOR).and_then(|mut generator| generator.read_exact(&mut iv));
-    read.map_err(|error| Named::new("the generator", GENERATOR).failed(error))?;
-    Ok(iv)
 }
 
 /// A library's answer: nothing, or the refusal.

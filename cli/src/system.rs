@@ -2,7 +2,7 @@
 
 use std::ffi::CString;
 use std::fs::File;
-use std::io;
+use std::io::{self, Read};
 use std::os::raw::{c_char, c_int, c_uint, c_void};
 use std::os::unix::ffi::OsStrExt;
 use std::os::unix::io::AsRawFd;
@@ -23,6 +23,7 @@ mod c {
         pub fn fcntl(stream: c_int, command: c_int, ...) -> c_int;
         pub fn flock(file: c_int, operation: c_int) -> c_int;
         pub fn setrlimit(resource: c_int, limit: *const Limit) -> c_int;
+        pub fn getrandom(room: *mut u8, length: usize, flags: c_uint) -> isize;
         pub fn madvise(start: *mut c_void, length: usize, advice: c_int) -> c_int;
         pub fn signal(number: c_int, handler: usize) -> usize;
         pub fn renameat2(
@@ -79,6 +80,17 @@ pub fn in_huge_pages(memory: &[u8]) {
     // Sound because the advice changes no byte.
     let start = memory.as_ptr() as *mut c_void;
     unsafe { c::madvise(start, memory.len(), MADV_HUGEPAGE) };
+}
+
+/// The system's generator of random bytes. It waits until the system has randomness enough, which is once.
+pub struct Generator;
+
+impl Read for Generator {
+    fn read(&mut self, room: &mut [u8]) -> io::Result<usize> {
+        // Sound because pointer and length are those of one reference.
+        let count = unsafe { c::getrandom(room.as_mut_ptr(), room.len(), 0) };
+        usize::try_from(count).map_err(|_| io::Error::last_os_error())
+    }
 }
 
 static STOPPED: AtomicBool = AtomicBool::new(false);

@@ -6,8 +6,16 @@ use crate::failure::{Failure, Named};
 use crate::secret::{guarded, Secret};
 use crate::sizes::{Size, SCHEDULES, SET};
 
-/// The system's generator.
-pub const GENERATOR: &str = "/dev/urandom";
+/// Fills a buffer with random bytes.
+pub fn fill(generator: &mut dyn Read, room: &mut [u8]) -> Result<(), Failure> {
+    generator
+        .read_exact(room)
+        .map_err(|error| generator_named().failed(error))
+}
+
+fn generator_named() -> Named {
+    Named::new("the system's", "generator")
+}
 
 /// Room for what is made for one pad, used for one pad after the other.
 pub struct Works {
@@ -37,34 +45,27 @@ impl Works {
 
     /// Makes all of it for a new pad. No random byte is used twice.
     pub fn make(&mut self, generator: &mut dyn Read) -> Result<(), Failure> {
-        let named = Named::new("the generator", GENERATOR);
-        let mut fill = |bytes: &mut [u8]| {
-            generator
-                .read_exact(bytes)
-                .map_err(|error| named.failed(error))
-        };
-        let mut drawn = 0;
-        fill(&mut self.key)?;
-        fill(&mut self.random)?;
-        let chain = &mut self.chain;
-        let made =
-            guarded(|| libbowlinette::make_chain(self.size.key, &self.random, chain, &mut drawn));
-        done(made, &named)?;
-        fill(&mut self.random)?;
-        let set = &self.chain[self.size.last_set()..][..SET];
+        let (size, schedule, mut drawn) = (self.size, self.schedule, 0);
+        fill(generator, &mut self.key)?;
+        fill(generator, &mut self.random)?;
+        let (random, chain) = (&self.random, &mut self.chain);
+        done(guarded(|| {
+            libbowlinette::make_chain(size.key, random, chain, &mut drawn)
+        }))?;
+        fill(generator, &mut self.random)?;
+        let (random, set) = (&self.random, &self.chain[size.last_set()..][..SET]);
         let chain = &mut self.reading_chain;
-        let made = guarded(|| {
-            libbowlinette::make_reading_chain(self.size.key, set, &self.random, chain, &mut drawn)
-        });
-        done(made, &named)?;
-        let book = &mut self.book;
-        let built = guarded(|| libbowlinette::build(self.schedule, &self.key, &self.chain, book));
-        done(built, &named)?;
-        let book = &mut self.reading_book;
-        let built = guarded(|| {
-            libbowlinette::build_reading(self.schedule, &self.key, &self.reading_chain, book)
-        });
-        done(built, &named)
+        done(guarded(|| {
+            libbowlinette::make_reading_chain(size.key, set, random, chain, &mut drawn)
+        }))?;
+        let (chain, book) = (&self.chain, &mut self.book);
+        done(guarded(|| {
+            libbowlinette::build(schedule, &self.key, chain, book)
+        }))?;
+        let (chain, book) = (&self.reading_chain, &mut self.reading_book);
+        done(guarded(|| {
+            libbowlinette::build_reading(schedule, &self.key, chain, book)
+        }))
     }
 
     /// The files of a pad of this number: what each station may hold, and no more.
@@ -89,9 +90,9 @@ impl Works {
 }
 
 /// A refusal here would be of the random bytes, which are enough but once in 2^390 times.
-fn done(number: u32, named: &Named) -> Result<(), Failure> {
+fn done(number: u32) -> Result<(), Failure> {
     match number {
         0 => Ok(()),
-        _ => Err(named.refused(number)),
+        _ => Err(generator_named().refused(number)),
     }
 }
