@@ -126,7 +126,9 @@ fn make_all(order: &Order, staging: &Staging, progress: &Progress) -> Result<(),
             }
             worked
         };
-        let others: Vec<_> = (1..order.jobs).map(|_| scope.spawn(work)).collect();
+        // Where the system grants no more threads, those that there are make the pads.
+        let begin = |_| thread::Builder::new().spawn_scoped(scope, work).ok();
+        let others: Vec<_> = (1..order.jobs).filter_map(begin).collect();
         let mut worked = work();
         for other in others {
             worked = worked.and(other.join().expect("a thread of the pallet ends"));

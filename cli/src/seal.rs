@@ -131,9 +131,13 @@ impl Counter {
         let mut iv = [0; BLOCK];
         fill(&mut Generator, &mut iv)?;
         thread::scope(|scope| {
-            let tag = scope.spawn(|| tag(&set, &book, &message));
+            let tagged = || tag(&set, &book, &message);
+            let beside = thread::Builder::new().spawn_scoped(scope, tagged);
             let sealed = seal(&set, &book, &iv, &message);
-            let tag = tag.join().expect("the tag's thread ends");
+            let tag = match beside {
+                Ok(thread) => thread.join().expect("the tag's thread ends"),
+                Err(_) => tagged(),
+            };
             match sealed.and_then(|sealed| Ok((iv, sealed, tag?))) {
                 Ok(sealed) => Ok(sealed),
                 Err(refused) => Err(self.blamed(refused).refused(refused)),

@@ -25,21 +25,20 @@ fn make_folder(path: &Path) -> io::Result<()> {
 }
 
 impl Staging {
-    /// A new one in the pallet's folder, which is made where it is not there; those that dead pallets left go.
+    /// A new one in the pallet's folder, which is made where it is not there; those that dead pallets left go. One
+    /// pallet at a time does this in a folder.
     pub fn new(pallet: &Path) -> io::Result<Staging> {
-        if !pallet.is_dir() {
-            make_folder(pallet)?;
+        match make_folder(pallet) {
+            Err(_) if pallet.is_dir() => (),
+            made => made?,
         }
+        let beginning = File::open(pallet)?;
+        system::lock(&beginning, true)?;
         remove_dead(pallet)?;
         let path = pallet.join(hidden(NAME));
         make_folder(&path)?;
         let locked = File::open(&path)?;
-        if !system::lock(&locked) {
-            return Err(io::Error::new(
-                ErrorKind::Other,
-                "another pallet is beginning here",
-            ));
-        }
+        system::lock(&locked, false)?;
         let pallet = pallet.to_owned();
         Ok(Staging {
             pallet,
@@ -83,15 +82,26 @@ fn write_folder(folder: &Path, files: &[(&str, &[u8])]) -> io::Result<()> {
     Ok(())
 }
 
-/// Removes the staging folders on which no pallet has its lock.
+/// Removes the staging folders on which no pallet has its lock. One that goes meanwhile is no fault.
 fn remove_dead(pallet: &Path) -> io::Result<()> {
     let start = format!(".{NAME}-");
     for entry in fs::read_dir(pallet)? {
         let entry = entry?;
-        let ours = entry.file_name().as_bytes().starts_with(start.as_bytes());
-        if ours && entry.file_type()?.is_dir() && system::lock(&File::open(entry.path())?) {
-            fs::remove_dir_all(entry.path())?;
+        if entry.file_name().as_bytes().starts_with(start.as_bytes()) && entry.file_type()?.is_dir()
+        {
+            match remove_unlocked(&entry.path()) {
+                Err(error) if error.kind() == ErrorKind::NotFound => (),
+                removed => removed?,
+            }
         }
+    }
+    Ok(())
+}
+
+fn remove_unlocked(path: &Path) -> io::Result<()> {
+    let folder = File::open(path)?;
+    if system::lock(&folder, false)? {
+        fs::remove_dir_all(path)?;
     }
     Ok(())
 }

@@ -51,10 +51,19 @@ pub fn is_open(stream: c_int) -> bool {
     unsafe { c::fcntl(stream, F_GETFD) != -1 }
 }
 
-/// Whether this process got the lock on a file or folder, which it holds until it ends or the file is closed.
-pub fn lock(file: &File) -> bool {
-    const ALONE_AT_ONCE: c_int = 2 | 4;
-    unsafe { c::flock(file.as_raw_fd(), ALONE_AT_ONCE) == 0 }
+/// Whether this process got the lock on a file or folder, which it holds until it ends or the file is closed; it may
+/// wait for it.
+pub fn lock(file: &File, wait: bool) -> io::Result<bool> {
+    const LOCK_EX: c_int = 2;
+    const LOCK_NB: c_int = 4;
+    let operation = if wait { LOCK_EX } else { LOCK_EX | LOCK_NB };
+    if unsafe { c::flock(file.as_raw_fd(), operation) } == 0 {
+        return Ok(true);
+    }
+    match io::Error::last_os_error() {
+        error if error.kind() == io::ErrorKind::WouldBlock => Ok(false),
+        error => Err(error),
+    }
 }
 
 /// Before anything is read: no core file, which would have secrets, and a file that grows over a limit is an error of
