@@ -1,0 +1,128 @@
+//! What the tests ask of the system itself, by the functions of the C library.
+
+use std::ffi::CString;
+use std::fs::File;
+use std::io::{self, Write};
+use std::os::raw::{c_char, c_int, c_ulong, c_void};
+use std::os::unix::io::FromRawFd;
+use std::os::unix::process::CommandExt;
+use std::process::{Command, Stdio};
+
+pub const INTERRUPT: c_int = 2;
+pub const KILL: c_int = 9;
+pub const TERMINATE: c_int = 15;
+const FILE_TOO_LARGE: c_int = 25;
+
+/// Who may nothing.
+const NOBODY: u32 = 65_534;
+
+/// The limits on the length of a file, and on memory.
+const FILE_LENGTH: c_int = 1;
+const MEMORY: c_int = 9;
+
+const CLOSED_ON_START: c_int = 0o2_000_000;
+const NEW_MOUNTS: c_int = 0x0002_0000;
+const PRIVATE_ALL: c_ulong = 0x0004_0000 | 0x4000;
+
+mod c {
+    use super::*;
+
+    extern "C" {
+        pub fn kill(id: c_int, signal: c_int) -> c_int;
+        pub fn geteuid() -> u32;
+        pub fn pipe2(ends: *mut c_int, flags: c_int) -> c_int;
+        pub fn mkfifo(path: *const c_char, mode: u32) -> c_int;
+        pub fn setrlimit(what: c_int, limit: *const [c_ulong; 2]) -> c_int;
+        pub fn signal(signal: c_int, handler: usize) -> usize;
+        pub fn unshare(what: c_int) -> c_int;
+        pub fn mount(
+            from: *const c_char,
+            at: *const c_char,
+            kind: *const c_char,
+            flags: c_ulong,
+            options: *const c_void,
+        ) -> c_int;
+    }
+}
+
+/// What a function of the C library says, as a result.
+pub fn told(answer: c_int) -> io::Result<()> {
+    is_yes(answer == 0)
+}
+
+/// The same, by whether it did what it should.
+pub fn is_yes(yes: bool) -> io::Result<()> {
+    match yes {
+        true => Ok(()),
+        false => Err(io::Error::last_os_error()),
+    }
+}
+
+fn text(text: &str) -> CString {
+    CString::new(text).expect("no zero byte")
+}
+
+/// Sends a signal to a process that the test has started.
+pub fn signal(id: u32, signal: c_int) {
+    let _ = unsafe { c::kill(id as c_int, signal) };
+}
+
+pub fn is_root() -> bool {
+    unsafe { c::geteuid() == 0 }
+}
+
+/// Makes a command run as one whom permissions bind: as it is, where the test is not root's.
+pub fn bound(command: &mut Command) -> &mut Command {
+    if is_root() {
+        command.uid(NOBODY).gid(NOBODY);
+    }
+    command
+}
+
+fn limited(command: &mut Command, what: c_int, limit: c_ulong) -> &mut Command {
+    // 1 is the handler by which a signal is ignored: writing then says that the file is too large.
+    let set = move || {
+        unsafe { c::signal(FILE_TOO_LARGE, 1) };
+        told(unsafe { c::setrlimit(what, &[limit; 2]) })
+    };
+    unsafe { command.pre_exec(set) }
+}
+
+/// Lets a command write files of no more than so many bytes.
+pub fn with_short_files(command: &mut Command, bytes: u64) -> &mut Command {
+    limited(command, FILE_LENGTH, bytes)
+}
+
+/// Lets a command have no more than so many bytes of memory.
+pub fn with_memory(command: &mut Command, bytes: u64) -> &mut Command {
+    limited(command, MEMORY, bytes)
+}
+
+/// A pipe that nobody reads from. For an instant a process that another test starts may have the other end too.
+pub fn broken_pipe() -> Stdio {
+    let mut ends = [0; 2];
+    told(unsafe { c::pipe2(ends.as_mut_ptr(), CLOSED_ON_START) }).expect("a pipe");
+    let [read, mut write] = ends.map(|end| unsafe { File::from_raw_fd(end) });
+    drop(read);
+    while write.write_all(b"?").is_ok() {}
+    write.into()
+}
+
+/// A named pipe: its path.
+pub fn named_pipe(path: String) -> String {
+    told(unsafe { c::mkfifo(text(&path).as_ptr(), 0o600) }).expect("a named pipe");
+    path
+}
+
+/// Gives this thread, and what it starts, a small disk of so many bytes at a folder, until the thread ends.
+pub fn with_small_disk(folder: &str, bytes: usize) -> io::Result<()> {
+    let (none, root, kind, at) = (text("none"), text("/"), text("tmpfs"), text(folder));
+    let options = text(&format!("size={bytes}"));
+    unsafe {
+        told(c::unshare(NEW_MOUNTS))?;
+        let (from, no_options) = (none.as_ptr(), std::ptr::null());
+        told(c::mount(from, root.as_ptr(), from, PRIVATE_ALL, no_options))?;
+        let options = options.as_ptr().cast();
+        told(c::mount(from, at.as_ptr(), kind.as_ptr(), 0, options))
+    }
+}
