@@ -142,7 +142,7 @@ fn unreadable() {
     open_to_all(folder);
     for input in INPUTS {
         let path = desk.at(input.file);
-        fs::set_permissions(&path, Permissions::from_mode(0)).unwrap();
+        fs::set_permissions(&path, Permissions::from_mode(0o000)).unwrap();
         let ran = kept_as(folder, || finish(bound(&mut desk.command(input.command))));
         fs::set_permissions(&path, Permissions::from_mode(0o644)).unwrap();
         ran.hindered(input.command, &desk.called(input), DENIED);

@@ -72,43 +72,47 @@ fn modes_and_defaults() {
     }
 }
 
-/// No two pads share a key, a set or a book; no key is all zeros; what leaves the works has neither the key nor a
-/// set of another station in it.
+/// What is one station's alone.
+const SECRETS: [&str; 4] = [
+    "archive/key",
+    "archive/last-set",
+    "pad/message-set",
+    "screen/message-set",
+];
+
+/// What leaves the works.
+const SHIPPED: [&str; 5] = [
+    "pad/number",
+    "pad/message-set",
+    "driver/book",
+    "screen/reading-book",
+    "screen/message-set",
+];
+
+/// What leaves the works has neither the key nor a set of another station in it.
+fn keeps_its_secrets(pad: &Pad) {
+    for file in SHIPPED {
+        let bytes = pad.get(file);
+        for secret in SECRETS.into_iter().filter(|secret| *secret != file) {
+            let front = &pad.get(secret)[..16];
+            let held = bytes.windows(16).any(|part| part == front);
+            assert!(!held, "{file} holds what {secret} begins with");
+        }
+    }
+}
+
+/// No two pads share a key, a set or a book, and no key is all zeros.
 #[test]
 fn nothing_is_shared() {
     let dir = fresh("shared");
     on_each_way(|way| {
         let here = format!("{dir}/{}-{}", way.0.key_bytes(), way.1);
-        let pads = pads(way, 4, &here);
-        let secret = [
-            "archive/key",
-            "archive/last-set",
-            "pad/message-set",
-            "screen/message-set",
-        ];
-        let books = ["driver/book", "screen/reading-book"];
         let mut seen: Vec<Vec<u8>> = vec![];
-        for pad in &pads {
-            let own = secret.iter().chain(&books).map(|file| pad.get(file));
-            seen.extend(own);
-            let key = pad.get("archive/key");
-            assert!(key.iter().any(|&x| x != 0), "a key of zeros");
-            for file in [
-                "pad/number",
-                "pad/message-set",
-                "driver/book",
-                "screen/reading-book",
-                "screen/message-set",
-            ] {
-                let bytes = pad.get(file);
-                for secret in secret.iter().filter(|secret| **secret != file) {
-                    let secret = pad.get(secret);
-                    assert!(
-                        !bytes.windows(16).any(|part| part == &secret[..16]),
-                        "{file}"
-                    );
-                }
-            }
+        for pad in pads(way, 4, &here) {
+            keeps_its_secrets(&pad);
+            let books = ["driver/book", "screen/reading-book"];
+            seen.extend(SECRETS.iter().chain(&books).map(|file| pad.get(file)));
+            assert!(pad.get("archive/key").iter().any(|&x| x != 0));
         }
         let count = seen.len();
         seen.sort();

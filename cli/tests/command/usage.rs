@@ -3,7 +3,7 @@
 use crate::support::desk::Desk;
 use crate::support::header::{refusals, sentence, version};
 use crate::support::tree::{fresh, kept, names, put};
-use crate::support::{run, COMMANDS};
+use crate::support::{command, finish, run, COMMANDS};
 use std::fs;
 
 #[test]
@@ -135,42 +135,44 @@ fn without(args: &[String], at: usize, count: usize) -> Vec<String> {
     [&args[..at], &args[at + count..]].concat()
 }
 
-/// Options of a pallet that are wrong usage; the folder is not made.
+/// Options of a pallet that are wrong usage.
+const WRONG_PALLETS: [&str; 28] = [
+    "--key-size 16",
+    "--count 1",
+    "--count 0 --key-size 16",
+    "--count -1 --key-size 16",
+    "--count x --key-size 16",
+    "--count 1.5 --key-size 16",
+    "--count= --key-size 16",
+    "--count 99999999999999999999999 --key-size 16",
+    "--count 1 --key-size 17",
+    "--count 1 --key-size 0",
+    "--count 1 --key-size 128",
+    "--count 1 --key-size x",
+    "--count 1 --key-size 16 --schedule x",
+    "--count 1 --key-size 16 --schedule 0",
+    "--count 1 --key-size 16 --schedule LEA",
+    "--count 1 --key-size 16 --jobs 0",
+    "--count 1 --key-size 16 --jobs x",
+    "--count 1 --key-size 16 --first x",
+    "--count 1 --key-size 16 --first 100000000",
+    "--count 1 --key-size 16 --first 000000001",
+    "--count 2 --key-size 16 --first 99999999",
+    "--count 100000000 --key-size 16",
+    "--count 99999999 --key-size 16 --first 2",
+    "--count 18446744073709551615 --key-size 16 --first 2",
+    "--count 1 --count 1 --key-size 16",
+    "--count 1 --key-size 16 --key-size 16",
+    "--count 1 --key-size 16 --remark 1f:x",
+    "--count 1 --key-size 16 one-too-many",
+];
+
+/// The folder is not made.
 #[test]
 fn wrong_pallets() {
     let dir = fresh("wrong-pallets");
     let pallet = format!("{dir}/pallet");
-    let lines = [
-        "--key-size 16",
-        "--count 1",
-        "--count 0 --key-size 16",
-        "--count -1 --key-size 16",
-        "--count x --key-size 16",
-        "--count 1.5 --key-size 16",
-        "--count= --key-size 16",
-        "--count 99999999999999999999999 --key-size 16",
-        "--count 1 --key-size 17",
-        "--count 1 --key-size 0",
-        "--count 1 --key-size 128",
-        "--count 1 --key-size x",
-        "--count 1 --key-size 16 --schedule x",
-        "--count 1 --key-size 16 --schedule 0",
-        "--count 1 --key-size 16 --schedule LEA",
-        "--count 1 --key-size 16 --jobs 0",
-        "--count 1 --key-size 16 --jobs x",
-        "--count 1 --key-size 16 --first x",
-        "--count 1 --key-size 16 --first 100000000",
-        "--count 1 --key-size 16 --first 000000001",
-        "--count 2 --key-size 16 --first 99999999",
-        "--count 100000000 --key-size 16",
-        "--count 99999999 --key-size 16 --first 2",
-        "--count 18446744073709551615 --key-size 16 --first 2",
-        "--count 1 --count 1 --key-size 16",
-        "--count 1 --key-size 16 --key-size 16",
-        "--count 1 --key-size 16 --remark 1f:x",
-        "--count 1 --key-size 16 one-too-many",
-    ];
-    for line in lines {
+    for line in WRONG_PALLETS {
         let words = ["pallet", &pallet].into_iter().chain(line.split(' '));
         let args: Vec<&str> = words.collect();
         run(&args).misused(Some("pallet"));
@@ -187,54 +189,28 @@ fn wrong_key_sizes_of_chains() {
     }
 }
 
+/// The same line of `seal` in several forms, run on the desk. The message is called `-m`.
+const FORMS: [&str; 3] = [
+    "seal -o out --pad=pad --remark=1f:a=b --driver driver -- -m",
+    "seal --pad pad ./-m --remark 1f:a=b -o out --driver=driver",
+    "seal --pad=pad -o out --driver=driver --remark=1f:a=b -- ./-m",
+];
+
 /// Options stand anywhere, in either form, and `--` ends them: behind it a name may begin with a dash.
 #[test]
 fn forms_of_options() {
     let desk = Desk::new("forms");
     put(desk.at("-m"), b"a message");
-    let [pad, driver, archive] = ["pad", "driver", "archive"].map(|name| desk.at(name));
-    let (equal_pad, equal_driver) = (format!("--pad={pad}"), format!("--driver={driver}"));
-    let lines: [&[&str]; 3] = [
-        &[
-            "-o",
-            "out",
-            &equal_pad,
-            "--remark=1f:a=b",
-            "--driver",
-            &driver,
-            "--",
-            "-m",
-        ],
-        &[
-            "--pad",
-            &pad,
-            "./-m",
-            "--remark",
-            "1f:a=b",
-            "-o",
-            "out",
-            &equal_driver,
-        ],
-        &[
-            &equal_pad,
-            "-o",
-            "out",
-            &equal_driver,
-            "--remark=1f:a=b",
-            "--",
-            "./-m",
-        ],
-    ];
-    let inside = |args: &[&str]| {
-        let mut command = crate::support::command(args);
-        crate::support::finish(command.current_dir(&desk.pad.folder))
+    let inside = |line: &str| {
+        let args: Vec<&str> = line.split(' ').collect();
+        finish(command(&args).current_dir(&desk.pad.folder))
     };
-    for line in lines {
-        inside(&[&["seal"], line].concat()).silent();
-        assert!(inside(&["show", "out"]).text().contains("a=b"));
-        let opened = inside(&["open", "out", "-o", "plain", "--archive", &archive]);
-        assert!(opened.text().starts_with("Valid"));
-        assert_eq!(desk.pad.get("plain"), b"a message");
+    for line in FORMS {
+        inside(line).silent();
+        assert!(inside("show out").text().contains("a=b"), "{line}");
+        let opened = inside("open out -o plain --archive archive").text();
+        assert!(opened.starts_with("Valid"), "{line}: {opened}");
+        assert_eq!(desk.pad.get("plain"), b"a message", "{line}");
         for name in ["out", "plain"] {
             fs::remove_file(desk.at(name)).unwrap();
         }

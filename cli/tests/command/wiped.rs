@@ -4,12 +4,16 @@
 use crate::support::command;
 use crate::support::desk::Desk;
 use crate::support::pads::{Pad, Way, WORDS};
+use crate::support::system::pipe;
 use crate::support::trace::{found, traced};
 use crate::support::tree::{fresh, put};
 use reference::Size;
 use shared::Random;
 use std::fs::{self, File};
+use std::io::Write;
 use std::process::Command;
+use std::thread;
+use std::time::Duration;
 
 /// Windows of so many bytes of a secret, one behind the other; a shorter one is a window itself.
 fn windows(secret: &[u8], length: usize) -> Vec<&[u8]> {
@@ -130,6 +134,34 @@ fn from_standard_input() {
         searched(command(&args).stdin(input), &args, 0, secrets);
         let _ = fs::remove_file(desk.at("out"));
     }
+}
+
+/// A secret on standard input that comes by a pipe in two parts, the second of them short.
+fn in_two_parts(args: &[String], secret: &[u8], second: usize) {
+    let ends = pipe();
+    let (first, rest) = secret.split_at(secret.len() - second);
+    thread::scope(|scope| {
+        let write = ends.1;
+        scope.spawn(move || {
+            let mut write = write;
+            write.write_all(first)?;
+            thread::sleep(Duration::from_millis(200));
+            write.write_all(rest)
+        });
+        let what = || vec![("what came in parts".into(), secret.to_vec(), 32)];
+        searched(command(args).stdin(ends.0), args, 0, what);
+    });
+}
+
+/// What comes in parts is wiped wherever it went through.
+#[test]
+fn in_parts() {
+    let desk = desk("wiped-parts");
+    let message = Random(52).bytes(1_048_570);
+    let args = desk.args_with("seal", "-", &desk.at("out"));
+    in_two_parts(&args, &message, 7_000);
+    let args = ["check-chain", "-", "--key-size=16"].map(String::from);
+    in_two_parts(&args, &desk.pad.get("chain"), 300);
 }
 
 /// A chain that was checked, good or not.

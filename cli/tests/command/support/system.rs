@@ -98,11 +98,17 @@ pub fn with_memory(command: &mut Command, bytes: u64) -> &mut Command {
     limited(command, MEMORY, bytes)
 }
 
-/// A pipe that nobody reads from. For an instant a process that another test starts may have the other end too.
-pub fn broken_pipe() -> Stdio {
+/// A pipe: the end to read from, and the one to write to.
+pub fn pipe() -> (File, File) {
     let mut ends = [0; 2];
     told(unsafe { c::pipe2(ends.as_mut_ptr(), CLOSED_ON_START) }).expect("a pipe");
-    let [read, mut write] = ends.map(|end| unsafe { File::from_raw_fd(end) });
+    let [read, write] = ends.map(|end| unsafe { File::from_raw_fd(end) });
+    (read, write)
+}
+
+/// A pipe that nobody reads from. For an instant a process that another test starts may have the other end too.
+pub fn broken_pipe() -> Stdio {
+    let (read, mut write) = pipe();
     drop(read);
     while write.write_all(b"?").is_ok() {}
     write.into()
