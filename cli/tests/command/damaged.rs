@@ -3,14 +3,14 @@
 
 use crate::support::desk::{refused, Desk, Input, INPUTS, WRITING};
 use crate::support::system::{bound, is_root, named_pipe, with_memory};
-use crate::support::tree::{kept, put};
+use crate::support::tree::{by_mode, kept, put};
 use crate::support::{command, finish, run, run_with, Ran};
 use crate::support::{DENIED, FOLDER, MISSING};
 use reference::Size;
 use shared::{chains, Random};
-use std::fs::{self, File, Permissions};
+use std::fs::{self, File};
 use std::io::Write;
-use std::os::unix::fs::{symlink, PermissionsExt};
+use std::os::unix::fs::symlink;
 use std::thread;
 
 /// What each command says where an input is set aside and something is put in its place; the rest must stay.
@@ -50,6 +50,22 @@ fn good_inputs() {
 fn missing() {
     let judge = |ran: &Ran, input: Input, what: &str| ran.hindered(input.command, what, MISSING);
     spoilt("missing", |_| true, |_| {}, judge);
+}
+
+/// A name with a line's end in it does not make two lines of one.
+#[test]
+fn names_on_one_line() {
+    for args in [
+        &["show", "no\nsuch\rfile"][..],
+        &["show", "one\n", "two\n"],
+        &["show", "--no\nsuch=option"],
+        &["explain", "4\n2"],
+        &["no\nsuch\ncommand"],
+    ] {
+        let ran = run(args);
+        assert!([Some(3), Some(64)].contains(&ran.status), "{ran:?}");
+        assert!(!ran.line().contains('\r'), "{ran:?}");
+    }
 }
 
 #[test]
@@ -142,9 +158,9 @@ fn unreadable() {
     open_to_all(folder);
     for input in INPUTS {
         let path = desk.at(input.file);
-        fs::set_permissions(&path, Permissions::from_mode(0o000)).unwrap();
+        by_mode(&path, 0o000);
         let ran = kept_as(folder, || finish(bound(&mut desk.command(input.command))));
-        fs::set_permissions(&path, Permissions::from_mode(0o644)).unwrap();
+        by_mode(&path, 0o644);
         ran.hindered(input.command, &desk.called(input), DENIED);
     }
 }
@@ -153,7 +169,7 @@ fn unreadable() {
 fn open_to_all(path: &str) {
     let folder = fs::metadata(path).unwrap().is_dir();
     let mode = if folder { 0o777 } else { 0o644 };
-    fs::set_permissions(path, Permissions::from_mode(mode)).unwrap();
+    by_mode(path, mode);
     for entry in fs::read_dir(path).into_iter().flatten() {
         open_to_all(entry.unwrap().path().to_str().unwrap());
     }

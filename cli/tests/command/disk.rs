@@ -1,9 +1,10 @@
-//! A disk that is full: by a limit on the length of files and, where the test may, on a small disk.
+//! A disk that is full, by a limit on the length of files and, where the test may, on a small disk; and a system
+//! that lets no thread be started.
 
 use crate::support::desk::{Desk, WRITING};
 use crate::support::pads::{pallet, Pad};
-use crate::support::system::{with_short_files, with_small_disk};
-use crate::support::tree::{fresh, kept, names, put};
+use crate::support::system::{with_short_files, with_small_disk, without_threads};
+use crate::support::tree::{by_mode, fresh, kept, names, put};
 use crate::support::{command, finish, run, Ran, FULL, LARGE};
 use reference::Size;
 use shared::Random;
@@ -104,5 +105,33 @@ fn room_again() {
         );
         assert_eq!(run(&args).status, Some(0), "{name}");
         fs::remove_file(desk.at("out")).unwrap();
+    }
+}
+
+/// Where no thread can be started, a command does without, or says that the system said no.
+#[test]
+fn no_more_threads() {
+    let dir = fresh("no-threads");
+    by_mode(&dir, 0o777);
+    let at = |name: &str| format!("{dir}/{name}");
+    if without_threads(&mut command(&["--version"]))
+        .output()
+        .is_err()
+    {
+        return eprintln!("no_more_threads: nobody else cannot run the program here");
+    }
+    let mut one = pallet((Size::Lea128, 0), 1, 1, &at("pallet"));
+    assert_eq!(finish(without_threads(&mut one)).status, Some(0));
+    let pad = Pad::new(&at("pallet"), 1);
+    let (message, ink) = (put(at("message"), b"by one alone"), at("ink"));
+    let (paper, driver) = (pad.at("pad"), pad.at("driver"));
+    let seal = [
+        "seal", "--pad", &paper, "--driver", &driver, &message, "-o", &ink,
+    ];
+    let mut four = pallet((Size::Lea128, 0), 2, 4, &at("pallet"));
+    for command in [&mut command(&seal), four.args(["--jobs", "4"])] {
+        let ran = finish(without_threads(command));
+        assert!([Some(0), Some(3)].contains(&ran.status), "{ran:?}");
+        assert!(ran.err.lines().count() <= 4, "{ran:?}");
     }
 }

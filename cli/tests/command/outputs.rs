@@ -2,7 +2,7 @@
 
 use crate::support::desk::{Desk, MESSAGE, WRITING};
 use crate::support::system::bound;
-use crate::support::tree::{get, kept, mode, names, put};
+use crate::support::tree::{by_mode, get, kept, mode, names, put};
 use crate::support::{by_shell, command, ended, finish, run};
 use crate::support::{DENIED, MISSING, THERE};
 use std::fs;
@@ -68,11 +68,6 @@ fn a_folder_of_others() {
     ran.hindered("seal", &what, DENIED);
     assert!(!names(&desk.pad.folder).contains(&"out".into()));
     assert_eq!(desk.pad.get("ink"), ink);
-}
-
-fn by_mode(path: &str, mode: u32) {
-    use std::os::unix::fs::PermissionsExt;
-    fs::set_permissions(path, fs::Permissions::from_mode(mode)).unwrap();
 }
 
 /// Several at once with one output: one of them makes it, the others find it there.

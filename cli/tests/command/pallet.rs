@@ -259,6 +259,21 @@ fn two_at_once() {
     assert_eq!(found(&dir).1, [""; 0]);
 }
 
+/// Many that begin at the same time find each other's folders made, not yet locked, and gone: all go through.
+#[test]
+fn many_begin_at_once() {
+    for round in 0..20 {
+        let dir = fresh("begin-at-once");
+        let start = |number| pallet(WAY, number, 1, &dir).spawn().unwrap();
+        let all: Vec<Child> = (1..=8).map(start).collect();
+        for ran in all.into_iter().map(ended) {
+            assert_eq!(ran.status, Some(0), "round {round}: {ran:?}");
+        }
+        let (pads, others) = found(&dir);
+        assert_eq!((pads.len(), others.len()), (8, 0), "round {round}");
+    }
+}
+
 /// Two at once with the same numbers: each number is one whole pad, and one of the two finds some there.
 #[test]
 fn two_at_once_with_the_same_numbers() {

@@ -13,11 +13,13 @@ pub const KILL: c_int = 9;
 pub const TERMINATE: c_int = 15;
 const FILE_TOO_LARGE: c_int = 25;
 
-/// Who may nothing.
+/// Who may nothing, and another one who has no other process.
 const NOBODY: u32 = 65_534;
+const NOBODY_ELSE: u32 = 65_533;
 
-/// The limits on the length of a file, and on memory.
+/// The limits on the length of a file, on processes and threads, and on memory.
 const FILE_LENGTH: c_int = 1;
+const PROCESSES: c_int = 6;
 const MEMORY: c_int = 9;
 
 const CLOSED_ON_START: c_int = 0o2_000_000;
@@ -91,6 +93,14 @@ fn limited(command: &mut Command, what: c_int, limit: c_ulong) -> &mut Command {
 /// Lets a command write files of no more than so many bytes.
 pub fn with_short_files(command: &mut Command, bytes: u64) -> &mut Command {
     limited(command, FILE_LENGTH, bytes)
+}
+
+/// Lets a command start no thread. Root is not bound by that.
+pub fn without_threads(command: &mut Command) -> &mut Command {
+    if is_root() {
+        command.uid(NOBODY_ELSE).gid(NOBODY_ELSE);
+    }
+    limited(command, PROCESSES, 1)
 }
 
 /// Lets a command have no more than so many bytes of memory.

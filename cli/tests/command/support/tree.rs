@@ -1,9 +1,9 @@
 //! Folders of a test's own, and what is in them.
 
 use std::collections::BTreeMap;
-use std::fs;
+use std::fs::{self, Permissions};
 use std::os::unix::ffi::OsStrExt;
-use std::os::unix::fs::MetadataExt;
+use std::os::unix::fs::{MetadataExt, PermissionsExt};
 use std::path::Path;
 
 /// A fresh folder by this name, for one test alone.
@@ -30,6 +30,11 @@ pub fn get(path: &str) -> Vec<u8> {
 /// The permission bits of a file or folder.
 pub fn mode(path: &str) -> u32 {
     fs::symlink_metadata(path).expect(path).mode() & 0o7777
+}
+
+/// Sets them.
+pub fn by_mode(path: &str, mode: u32) {
+    fs::set_permissions(path, Permissions::from_mode(mode)).expect(path);
 }
 
 /// The names in a folder, in order; none where it is not there.
