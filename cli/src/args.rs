@@ -32,7 +32,7 @@ impl Opt {
         }
     }
 
-    /// One with a value, as often as one likes.
+    /// One with a value, which may come any number of times.
     pub const fn repeated(name: &'static str) -> Opt {
         Opt {
             name,
@@ -100,8 +100,8 @@ impl Args {
             Some(OsString::new())
         };
         match value {
-            Some(value) => self.options.push((name, value)),
-            None => return usage(format!("the option {name} needs a value")),
+            Some(value) if !option.valued || !value.is_empty() => self.options.push((name, value)),
+            _ => return usage(format!("the option {name} needs a value")),
         }
         Ok(())
     }

@@ -4,7 +4,7 @@ use crate::args::{Args, Opt};
 use crate::command::Command;
 use crate::failure::{Failure, DONE};
 use crate::files::Source;
-use crate::secret::guarded;
+use crate::refusals::answer;
 use crate::sizes::{Size, LARGEST};
 use crate::streams;
 
@@ -40,12 +40,8 @@ fn run(args: &Args) -> Result<u8, Failure> {
     } else {
         libbowlinette::check_chain
     };
-    match guarded(|| check(size.key, &chain)) {
-        0 => {
-            let kind = if reading { "reading chain" } else { "chain" };
-            streams::print(&format!("a valid {kind} for keys of {} bytes\n", size.key))?;
-            Ok(DONE)
-        }
-        refused => Err(source.named.refused(refused)),
-    }
+    answer(|| check(size.key, &chain)).map_err(|refused| source.named.refused(refused))?;
+    let kind = if reading { "reading chain" } else { "chain" };
+    streams::print(&format!("a valid {kind} for keys of {} bytes\n", size.key))?;
+    Ok(DONE)
 }

@@ -27,7 +27,7 @@ Example:
 fn run(args: &Args) -> Result<u8, Failure> {
     let text = match args.operand(0) {
         None => REFUSALS
-            .map(|refusal| format!("{:>2} {}\n", refusal.number, refusal.sentence))
+            .map(|refusal| format!("{} {}\n", refusal.number, refusal.sentence))
             .concat(),
         Some(given) => explained(&given.to_string_lossy())?,
     };

@@ -3,8 +3,9 @@
 use std::ffi::{OsStr, OsString};
 use std::fmt::{self, Display, Formatter};
 use std::io;
+use std::path::Path;
 
-use crate::refusals;
+use crate::{refusals, system};
 
 /// The exit statuses.
 pub const DONE: u8 = 0;
@@ -47,6 +48,15 @@ impl Named {
             io::ErrorKind::AlreadyExists,
             "it is there already",
         ))
+    }
+
+    /// Lets a file or folder that was written beside appear in its place, where nothing may be.
+    pub fn appear(&self, beside: &Path) -> Result<(), Failure> {
+        let renamed = system::rename_to_new(beside, Path::new(&self.place));
+        renamed.map_err(|error| match error.kind() {
+            io::ErrorKind::AlreadyExists => self.there(),
+            _ => self.failed(error),
+        })
     }
 }
 

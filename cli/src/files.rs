@@ -42,7 +42,8 @@ impl Source {
         }
     }
 
-    /// All of it, or of a longer one as many bytes as the longest right one has and one more: those are as wrong.
+    /// All of it, or of a longer one as many bytes as the longest right one has and one more, which are refused all the
+    /// same.
     pub fn read(&self, longest: usize) -> Result<Secret, Failure> {
         self.bytes(longest + 1)
             .map_err(|error| self.named.failed(error))
@@ -59,10 +60,10 @@ impl Source {
             return front(|room| file.read(room), most);
         }
         let bytes = front(|room| file.read(room), length + 1)?;
-        if bytes.len() > length {
+        if bytes.len() != length {
             return Err(io::Error::new(
                 ErrorKind::Other,
-                "it grew while it was read",
+                "it changed while it was read",
             ));
         }
         Ok(bytes)
@@ -93,7 +94,7 @@ pub struct Output {
 }
 
 impl Output {
-    /// One that is not there yet. Whether it is is looked up before any work, and decided when it is written.
+    /// One that is not there yet. This is looked up before any work, and decided when it is written.
     pub fn new(path: &OsStr, mode: u32) -> Result<Output, Failure> {
         if path == "-" {
             let named = Named::new("the output", "on standard output");
@@ -114,30 +115,39 @@ impl Output {
         })
     }
 
-    /// Writes all of it. A file is written beside its place under a hidden name, and then gets its own.
-    pub fn write(&self, bytes: &[u8]) -> Result<(), Failure> {
+    /// Writes all of it, and then does what must be done before it appears. A file is written beside its place under a
+    /// hidden name, is on the disk, and then gets its own; a signal meanwhile is noted and ends it.
+    pub fn write(
+        &self,
+        bytes: &[u8],
+        before: impl FnOnce() -> Result<(), Failure>,
+    ) -> Result<(), Failure> {
         if self.piped {
-            return streams::output(bytes).map_err(|error| self.named.failed(error));
+            streams::output(bytes).map_err(|error| self.named.failed(error))?;
+            return before();
         }
-        let path = Path::new(&self.named.place);
-        let beside = path.with_file_name(hidden("bowlinette"));
-        let written = write_new(&beside, bytes, self.mode)
-            .and_then(|()| system::rename_to_new(&beside, path));
-        written.map_err(|error| {
-            let _ = fs::remove_file(&beside);
-            match error.kind() {
-                ErrorKind::AlreadyExists => self.named.there(),
-                _ => self.named.failed(error),
+        system::note_signals();
+        let beside = Path::new(&self.named.place).with_file_name(hidden("bowlinette"));
+        let mut file = create(&beside, self.mode).map_err(|error| self.named.failed(error))?;
+        let written = file.write_all(bytes).and_then(|()| file.sync_all());
+        let written = written.map_err(|error| self.named.failed(error));
+        let appeared = written.and_then(|()| before()).and_then(|()| {
+            if system::stopped() {
+                return Err(self.named.failed(system::interrupted()));
             }
-        })
+            self.named.appear(&beside)
+        });
+        if appeared.is_err() {
+            let _ = fs::remove_file(&beside);
+        }
+        appeared
     }
 }
 
-/// Writes a file that is not there yet.
-pub fn write_new(path: &Path, bytes: &[u8], mode: u32) -> io::Result<()> {
+/// A file that was not there.
+pub fn create(path: &Path, mode: u32) -> io::Result<File> {
     let mut options = OpenOptions::new();
-    options.write(true).create_new(true).mode(mode);
-    options.open(path)?.write_all(bytes)
+    options.write(true).create_new(true).mode(mode).open(path)
 }
 
 /// A hidden name that no other process has.

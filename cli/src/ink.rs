@@ -5,10 +5,9 @@ use std::ffi::OsStr;
 use crate::failure::Failure;
 use crate::files::Source;
 use crate::secret::Secret;
-use crate::sizes::INK_MAX;
+use crate::sizes::{BLOCK, INK_MAX};
 
 const HEAD: usize = 6;
-const BLOCK: usize = 16;
 
 /// The shortest ink file, and where its four records begin and the file ends.
 const SHORTEST: usize = 80;

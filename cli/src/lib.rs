@@ -1,8 +1,10 @@
 //! The command `bowlinette`, with a subcommand for each station. It reads files, calls the proved library, and
-//! writes files: whatever is coded, built, sealed, tagged, opened, checked or read by tables, the library does.
+//! writes files: whatever is coded, built, sealed, tagged, opened, checked or read by tables, the library does. Its own
+//! is to decode what a screen has read and to take the padding off.
 
 mod args;
 mod check_chain;
+mod coding;
 mod command;
 mod explain;
 mod failure;

@@ -1,6 +1,5 @@
 //! The works: a folder for each pad of a pallet.
 
-use std::io;
 use std::path::Path;
 use std::sync::atomic::{AtomicU64, Ordering};
 use std::thread;
@@ -45,9 +44,9 @@ else. Files have mode 0600.
 
   --count N        how many pads
   --key-size S     bytes of each key
-  --schedule W     how round keys are made: lea, which is meant where nothing is said, or wf-lea, one way
-  --first NUMBER   the first pad's number, 1 to 99999999; 1 where nothing is said
-  --jobs J         how many are made at a time; as many as there are cores where nothing is said
+  --schedule W     how round keys are made: lea (the default), or wf-lea, one way
+  --first NUMBER   the first pad's number, 1 to 99999999 (default: 1)
+  --jobs J         how many are made at a time, 1 to 256 (default: one for each core)
 
 Example:
   bowlinette pallet --count 500 --key-size 16 --first 2000 pads
@@ -76,7 +75,7 @@ impl Order {
             )));
         }
         let cores = thread::available_parallelism().map_or(1, |cores| cores.get() as u64);
-        let jobs = args.number("--jobs", 1..=1024)?.unwrap_or(cores).min(count);
+        let jobs = args.number("--jobs", 1..=256)?.unwrap_or(cores).min(count);
         Ok(Order {
             count,
             first,
@@ -96,21 +95,19 @@ fn run(args: &Args) -> Result<u8, Failure> {
     let named = Named::new("the pallet", args.operand(0).unwrap_or_default());
     system::note_signals();
     let staging = Staging::new(Path::new(&named.place)).map_err(|error| named.failed(error))?;
-    for number in (0..order.count).map(|place| order.number(place)) {
-        let place = staging.place(&number);
-        if Path::new(&place.place).symlink_metadata().is_ok() {
-            return Err(place.there());
-        }
+    let numbers = order.first..=order.first + order.count - 1;
+    let taken = staging
+        .taken(numbers)
+        .map_err(|error| named.failed(error))?;
+    if let Some(number) = taken {
+        return Err(staging.place(&number).there());
     }
     let progress = Progress::new(order.count);
     let made = make_all(&order, &staging, &progress);
     progress.end();
     made?;
     if progress.done() < order.count {
-        return Err(named.failed(io::Error::new(
-            io::ErrorKind::Interrupted,
-            "stopped by a signal",
-        )));
+        return Err(named.failed(system::interrupted()));
     }
     Ok(DONE)
 }

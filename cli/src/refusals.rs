@@ -1,4 +1,18 @@
-//! The library's refusals: the sentence of each, as its header has it, and what to do.
+//! The library's answers: done, or a refusal, of each of which there is the sentence, as the header has it, and what
+//! to do.
+
+use crate::secret::guarded;
+
+/// What did not end in padding.
+pub const NO_PADDING: u32 = 11;
+
+/// Calls the library, and leaves nothing of the call on the stack: done, or the refusal.
+pub fn answer(call: impl FnOnce() -> u32) -> Result<(), u32> {
+    match guarded(call) {
+        0 => Ok(()),
+        refused => Err(refused),
+    }
+}
 
 /// A refusal.
 pub struct Refusal {
@@ -45,7 +59,7 @@ pub const REFUSALS: [Refusal; 18] = [
     refusal(
         6,
         "The book, the reading book or the tables of a round have a length that none has.",
-        "The file was cut short or is another one; a book without a first byte, from before these were, has the same refusal. Fetch it from the works again.",
+        "The file was cut short or is another one. Books of before version 2.0, which have no byte for the key's length in front, are refused so too. Fetch it from the works again.",
     ),
     refusal(
         7,
@@ -95,7 +109,7 @@ pub const REFUSALS: [Refusal; 18] = [
     refusal(
         32,
         "The random bytes ran out.",
-        "Nothing was made. Try again, with more random bytes where a program of one's own gives them.",
+        "Of that pad or chain nothing was made. Go on with the number of the pad that is missing; a program of one's own gives more random bytes.",
     ),
     refusal(
         33,

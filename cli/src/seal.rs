@@ -9,8 +9,9 @@ use crate::command::Command;
 use crate::failure::{Failure, Named, DONE};
 use crate::files::{Output, Source, ANYONE};
 use crate::ink::{self, Remark};
-use crate::secret::{guarded, Secret};
-use crate::sizes::{CODE_MAX, INK_MAX, LARGEST, MESSAGE_MAX, SET};
+use crate::refusals::answer;
+use crate::secret::Secret;
+use crate::sizes::{BLOCK, CODE_MAX, INK_MAX, LARGEST, MESSAGE_MAX, SET};
 use crate::system::Generator;
 use crate::works::fill;
 
@@ -45,8 +46,6 @@ Example:
   bowlinette seal --pad pads/00000001/pad --driver pads/00000001/driver --remark '10:counter 3' strokes -o strokes.ink
 ";
 
-const BLOCK: usize = 16;
-
 fn run(args: &Args) -> Result<u8, Failure> {
     let (pad, driver) = (args.needed("--pad")?, args.needed("--driver")?);
     let given = args
@@ -71,7 +70,7 @@ fn run(args: &Args) -> Result<u8, Failure> {
     let mut file = Secret::zeros(INK_MAX - CODE_MAX + sealed.len());
     let length = ink::write(&bytes, [&iv, &sealed, &tag], &remarks, &mut file)
         .map_err(|refused| number.named.refused(refused))?;
-    output.write(&file[..length])?;
+    output.write(&file[..length], || Ok(()))?;
     Ok(DONE)
 }
 
@@ -123,7 +122,7 @@ struct Counter {
 type Sealed = ([u8; BLOCK], Secret, [u8; BLOCK]);
 
 impl Counter {
-    /// IV, sealed blocks and tag of the message. The tag is made beside the sealing, which takes as long.
+    /// IV, sealed blocks and tag of the message. The tag is made in a second thread: it takes as long as the sealing.
     fn sealed(&self) -> Result<Sealed, Failure> {
         let set = self.set.read(SET)?;
         let book = self.book.read(LARGEST.book())?;
@@ -155,44 +154,31 @@ impl Counter {
     }
 }
 
-/// A library's answer: nothing, or the refusal.
-fn answer(number: u32) -> Result<(), u32> {
-    match number {
-        0 => Ok(()),
-        refused => Err(refused),
-    }
-}
-
 /// The message coded and sealed.
 fn seal(set: &[u8], book: &[u8], iv: &[u8], message: &[u8]) -> Result<Secret, u32> {
     let (mut coded, mut length) = (Secret::zeros(message.len() + BLOCK), 0);
-    answer(guarded(|| {
-        libbowlinette::code_for_sealing(set, message, &mut coded, &mut length)
-    }))?;
+    answer(|| libbowlinette::code_for_sealing(set, message, &mut coded, &mut length))?;
     coded.shorten(length as usize);
     let mut sealed = Secret::zeros(coded.len());
-    answer(guarded(|| {
-        libbowlinette::seal(book, iv, &coded, &mut sealed, &mut length)
-    }))?;
+    answer(|| libbowlinette::seal(book, iv, &coded, &mut sealed, &mut length))?;
     Ok(sealed)
 }
 
 /// The message's tag: coded, and taken through a session.
 fn tag(set: &[u8], book: &[u8], message: &[u8]) -> Result<[u8; BLOCK], u32> {
     let (mut coded, mut length, mut kind) = (Secret::zeros(message.len() + BLOCK), 0, 0);
-    answer(guarded(|| {
-        libbowlinette::code_for_tag(set, message, &mut coded, &mut length, &mut kind)
-    }))?;
+    answer(|| libbowlinette::code_for_tag(set, message, &mut coded, &mut length, &mut kind))?;
     coded.shorten(length as usize);
     let mut session = libbowlinette::Session::of([0; BLOCK], 0, 0);
     let mut tag = [0; BLOCK];
-    answer(session.begin(book))?;
+    answer(|| session.begin(book))?;
     let (front, last) = coded.split_at(coded.len() - BLOCK);
-    guarded(|| {
-        for block in front.chunks_exact(BLOCK) {
-            answer(session.block_call(book, block))?;
-        }
-        answer(session.last_call(book, last, kind, &mut tag))
+    answer(|| {
+        let calls = front
+            .chunks_exact(BLOCK)
+            .map(|block| session.block_call(book, block));
+        calls.fold(0, u32::max)
     })?;
+    answer(|| session.last_call(book, last, kind, &mut tag))?;
     Ok(tag)
 }

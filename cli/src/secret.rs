@@ -26,7 +26,7 @@ impl Secret {
         let room = vec![0; length + spare].into_boxed_slice();
         let mut start = 0;
         if spare > 0 {
-            start = room.as_ptr().align_offset(HUGE);
+            start = HUGE - room.as_ptr() as usize % HUGE;
             system::in_huge_pages(&room[start..start + HUGE]);
         }
         Secret {

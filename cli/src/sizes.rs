@@ -3,7 +3,9 @@
 use crate::args::Args;
 use crate::failure::Failure;
 
-/// A set of codings.
+/// A block, a coding, and a set of codings.
+pub const BLOCK: usize = 16;
+pub const CODING: usize = 16;
 pub const SET: usize = 512;
 /// The longest message, coded or sealed text, and ink file.
 pub const MESSAGE_MAX: usize = 1_048_575;

@@ -1,14 +1,15 @@
 //! The folder in which a pallet's pads are written before they appear: hidden, and gone when the pallet is done.
 
 use std::fs::{self, DirBuilder, File};
-use std::io::{self, ErrorKind};
+use std::io::{self, ErrorKind, Write};
+use std::ops::RangeInclusive;
 use std::os::unix::ffi::OsStrExt;
 use std::os::unix::fs::DirBuilderExt;
 use std::path::{Path, PathBuf};
 
 use crate::failure::{Failure, Named};
-use crate::files::{hidden, write_new, OWNER};
-use crate::system;
+use crate::files::{create, hidden, OWNER};
+use crate::{args, system};
 
 const NAME: &str = "pallet";
 const STATIONS: [&str; 4] = ["pad", "driver", "screen", "archive"];
@@ -33,18 +34,32 @@ impl Staging {
             made => made?,
         }
         let beginning = File::open(pallet)?;
-        system::lock(&beginning, true)?;
+        system::lock(&beginning, true);
         remove_dead(pallet)?;
         let path = pallet.join(hidden(NAME));
         make_folder(&path)?;
         let locked = File::open(&path)?;
-        system::lock(&locked, false)?;
+        system::lock(&locked, false);
         let pallet = pallet.to_owned();
         Ok(Staging {
             pallet,
             path,
             _locked: locked,
         })
+    }
+
+    /// The lowest pad that is there already, of numbers from the first on.
+    pub fn taken(&self, numbers: RangeInclusive<u64>) -> io::Result<Option<String>> {
+        let mut lowest = None;
+        for entry in fs::read_dir(&self.pallet)? {
+            let name = entry?.file_name().into_string().unwrap_or_default();
+            let number = args::number(&name).filter(|_| name.len() == 8);
+            if number.map_or(false, |number| numbers.contains(&number)) {
+                let other = lowest.unwrap_or_else(|| name.clone());
+                lowest = Some(name.min(other));
+            }
+        }
+        Ok(lowest)
     }
 
     /// Where a pad appears.
@@ -55,12 +70,8 @@ impl Staging {
     /// Writes a pad's folder and lets it appear, whole.
     pub fn put(&self, number: &str, files: &[(&str, &[u8])]) -> Result<(), Failure> {
         let (beside, place) = (self.path.join(number), self.place(number));
-        let written = write_folder(&beside, files);
-        let put = written.and_then(|()| system::rename_to_new(&beside, Path::new(&place.place)));
-        put.map_err(|error| match error.kind() {
-            ErrorKind::AlreadyExists => place.there(),
-            _ => place.failed(error),
-        })
+        write_folder(&beside, files).map_err(|error| place.failed(error))?;
+        place.appear(&beside)
     }
 }
 
@@ -77,20 +88,20 @@ fn write_folder(folder: &Path, files: &[(&str, &[u8])]) -> io::Result<()> {
         make_folder(&folder.join(station))?;
     }
     for (name, bytes) in files {
-        write_new(&folder.join(name), bytes, OWNER)?;
+        create(&folder.join(name), OWNER)?.write_all(bytes)?;
     }
     Ok(())
 }
 
-/// Removes the staging folders on which no pallet has its lock. One that goes meanwhile is no fault.
+/// Removes the staging folders on which no pallet has its lock, as far as that is granted. One that goes meanwhile is
+/// no fault.
 fn remove_dead(pallet: &Path) -> io::Result<()> {
-    let start = format!(".{NAME}-");
     for entry in fs::read_dir(pallet)? {
         let entry = entry?;
-        if entry.file_name().as_bytes().starts_with(start.as_bytes()) && entry.file_type()?.is_dir()
-        {
+        if is_staging(entry.file_name().as_bytes()) && entry.file_type()?.is_dir() {
             match remove_unlocked(&entry.path()) {
                 Err(error) if error.kind() == ErrorKind::NotFound => (),
+                Err(error) if error.kind() == ErrorKind::PermissionDenied => (),
                 removed => removed?,
             }
         }
@@ -98,9 +109,18 @@ fn remove_dead(pallet: &Path) -> io::Result<()> {
     Ok(())
 }
 
+/// Whether a name is one that `hidden` gives.
+fn is_staging(name: &[u8]) -> bool {
+    let start = format!(".{NAME}-");
+    let rest = name.strip_prefix(start.as_bytes()).unwrap_or_default();
+    let mut numbers = rest.split(|&byte| byte == b'-');
+    let is_number = |part: &[u8]| !part.is_empty() && part.iter().all(u8::is_ascii_digit);
+    numbers.clone().count() == 2 && numbers.all(is_number)
+}
+
 fn remove_unlocked(path: &Path) -> io::Result<()> {
     let folder = File::open(path)?;
-    if system::lock(&folder, false)? {
+    if system::lock(&folder, false) {
         fs::remove_dir_all(path)?;
     }
     Ok(())

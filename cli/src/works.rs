@@ -3,7 +3,8 @@
 use std::io::Read;
 
 use crate::failure::{Failure, Named};
-use crate::secret::{guarded, Secret};
+use crate::refusals::answer;
+use crate::secret::Secret;
 use crate::sizes::{Size, SCHEDULES, SET};
 
 /// Fills a buffer with random bytes.
@@ -49,23 +50,15 @@ impl Works {
         fill(generator, &mut self.key)?;
         fill(generator, &mut self.random)?;
         let (random, chain) = (&self.random, &mut self.chain);
-        done(guarded(|| {
-            libbowlinette::make_chain(size.key, random, chain, &mut drawn)
-        }))?;
+        done(|| libbowlinette::make_chain(size.key, random, chain, &mut drawn))?;
         fill(generator, &mut self.random)?;
         let (random, set) = (&self.random, &self.chain[size.last_set()..][..SET]);
         let chain = &mut self.reading_chain;
-        done(guarded(|| {
-            libbowlinette::make_reading_chain(size.key, set, random, chain, &mut drawn)
-        }))?;
+        done(|| libbowlinette::make_reading_chain(size.key, set, random, chain, &mut drawn))?;
         let (chain, book) = (&self.chain, &mut self.book);
-        done(guarded(|| {
-            libbowlinette::build(schedule, &self.key, chain, book)
-        }))?;
+        done(|| libbowlinette::build(schedule, &self.key, chain, book))?;
         let (chain, book) = (&self.reading_chain, &mut self.reading_book);
-        done(guarded(|| {
-            libbowlinette::build_reading(schedule, &self.key, chain, book)
-        }))
+        done(|| libbowlinette::build_reading(schedule, &self.key, chain, book))
     }
 
     /// The files of a pad of this number: what each station may hold, and no more.
@@ -90,9 +83,6 @@ impl Works {
 }
 
 /// A refusal here would be of the random bytes, which are enough but once in 2^390 times.
-fn done(number: u32) -> Result<(), Failure> {
-    match number {
-        0 => Ok(()),
-        _ => Err(generator_named().refused(number)),
-    }
+fn done(call: impl FnOnce() -> u32) -> Result<(), Failure> {
+    answer(call).map_err(|refused| generator_named().refused(refused))
 }

@@ -1,5 +1,5 @@
-//! The functions of include/bowlinette.h for Rust, over slices. Each returns 0, or the number of a refusal, in
-//! which case what it may write to is as it was.
+//! The functions of include/bowlinette.h for Rust, over slices. Each but `is_valid` returns 0, or the number of a
+//! refusal, in which case what it may write to is as it was.
 
 mod c {
     extern "C" {
