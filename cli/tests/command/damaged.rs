@@ -9,7 +9,7 @@ use crate::support::{DENIED, FOLDER, MISSING};
 use reference::Size;
 use shared::{chains, Random};
 use std::fs::{self, File};
-use std::io::Write;
+use std::io::{Seek, Write};
 use std::os::unix::fs::symlink;
 use std::thread;
 
@@ -103,6 +103,26 @@ fn endless_standard_input() {
         });
         let what = format!("{} on standard input", input.called);
         refused(&ran, input, &what, input.number, 0);
+    }
+}
+
+/// Of a standard input that is too long no more is read than the longest right one has, and one byte.
+#[test]
+fn no_further_than_needed() {
+    let desk = Desk::new("further");
+    let long = put(desk.at("long"), &vec![0; 1_200_000]);
+    for input in INPUTS.into_iter().filter(|input| input.is_operand()) {
+        let longest = match input.command {
+            "seal" => 1_048_575,
+            "check-chain" => 30_464,
+            _ => 1_049_684,
+        };
+        let args = desk.args_with(input.command, "-", &desk.at("out"));
+        let mut file = File::open(&long).unwrap();
+        let ran = finish(command(&args).stdin(file.try_clone().unwrap()));
+        assert_eq!(ran.status, Some(2), "{ran:?}");
+        let read = file.stream_position().unwrap();
+        assert!(read <= longest + 1, "{}: {read} bytes", input.command);
     }
 }
 
