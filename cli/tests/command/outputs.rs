@@ -64,7 +64,9 @@ fn a_folder_of_others() {
     }
     let ran = finish(bound(&mut desk.command("seal")));
     let what = format!("the output {}", desk.at("out"));
-    by_mode(&desk.at(""), 0o755);
+    for folder in ["", "pad", "driver"] {
+        by_mode(&desk.at(folder), 0o755);
+    }
     ran.hindered("seal", &what, DENIED);
     assert!(!names(&desk.pad.folder).contains(&"out".into()));
     assert_eq!(desk.pad.get("ink"), ink);

@@ -2,7 +2,7 @@
 
 use crate::support::pads::{on_each_way, pads, pallet, Pad, Way};
 use crate::support::system::{bound, signal, INTERRUPT, TERMINATE};
-use crate::support::tree::{fresh, kept, mode, names, put, tree};
+use crate::support::tree::{by_mode, fresh, kept, mode, names, put, tree};
 use crate::support::{by_shell, command, ended, finish, run, wait_until};
 use crate::support::{Ran, DENIED, MISSING, THERE};
 use reference::Size;
@@ -151,12 +151,11 @@ fn no_such_folder() {
     if bound(&mut command(&["--version"])).output().is_err() {
         return eprintln!("no_such_folder: nobody cannot run the program here");
     }
-    let mut read_only = fs::metadata(&dir).unwrap().permissions();
-    read_only.set_readonly(true);
-    fs::set_permissions(&dir, read_only).unwrap();
     let at = format!("{dir}/pallet");
-    for path in [&dir, &at] {
-        let ran = finish(bound(&mut pallet(WAY, 1, 1, path)));
+    by_mode(&dir, 0o555);
+    let ran = [&dir, &at].map(|path| finish(bound(&mut pallet(WAY, 1, 1, path))));
+    by_mode(&dir, 0o755);
+    for (ran, path) in ran.iter().zip([&dir, &at]) {
         ran.hindered_by(&["bowlinette pallet: ", path, DENIED]);
     }
     assert_eq!(names(&dir), ["file"], "{file}");
