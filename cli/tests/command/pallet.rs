@@ -6,13 +6,41 @@ use crate::support::tree::{by_mode, fresh, kept, mode, names, put, tree};
 use crate::support::{by_shell, command, ended, finish, run, wait_until};
 use crate::support::{Ran, DENIED, MISSING, THERE};
 use reference::Size;
-use std::fs;
 use std::process::Child;
+use std::{fs, io, thread};
 
 const WAY: Way = (Size::Lea128, 0);
 
 /// Far more pads than are waited for.
-const MANY: usize = 2_000;
+const MANY: usize = 5_000;
+
+/// A pallet under way, which is killed where a test fails, or it would go on for thousands of pads.
+struct UnderWay(Option<Child>);
+
+impl UnderWay {
+    fn id(&self) -> u32 {
+        self.0.as_ref().expect("it is under way").id()
+    }
+
+    fn kill(&mut self) {
+        if let Some(mut child) = self.0.take() {
+            child.kill().unwrap();
+            child.wait().unwrap();
+        }
+    }
+
+    /// What it ends with after a signal.
+    fn stopped_by(mut self, stop: i32) -> Ran {
+        signal(self.id(), stop);
+        ended(self.0.take().expect("it is under way"))
+    }
+}
+
+impl Drop for UnderWay {
+    fn drop(&mut self) {
+        self.kill();
+    }
+}
 
 /// The pads in a folder, and the other names.
 fn found(dir: &str) -> (Vec<Pad>, Vec<String>) {
@@ -162,20 +190,18 @@ fn no_such_folder() {
 }
 
 /// A pallet of many pads from a number on, which has made some of them.
-fn under_way(first: usize, some: usize, dir: &str) -> Child {
+fn under_way(first: usize, some: usize, dir: &str) -> UnderWay {
     let mut child = pallet(WAY, first, MANY, dir).spawn().unwrap();
     // What it tells of its progress is read to the end, or it would wait for a reader.
-    let err = child.stderr.take().unwrap();
-    std::thread::spawn(move || std::io::copy(&mut { err }, &mut std::io::sink()));
+    let mut err = child.stderr.take().unwrap();
+    thread::spawn(move || io::copy(&mut err, &mut io::sink()));
+    let at_work = UnderWay(Some(child));
+    let begin = Pad::new(dir, first).folder;
     wait_until("some pads", || {
-        assert!(child.try_wait().unwrap().is_none(), "it has ended");
-        let numbers = found(dir).0.into_iter().map(|pad| pad.folder);
-        numbers
-            .filter(|folder| folder.rsplit('/').next().unwrap().parse::<usize>().unwrap() >= first)
-            .count()
-            >= some
+        let made = found(dir).0.into_iter();
+        made.filter(|pad| pad.folder >= begin).count() >= some
     });
-    child
+    at_work
 }
 
 /// Every pad there must be whole, and the first and the last of use.
@@ -206,9 +232,9 @@ fn killed() {
     for (round, some) in [1, 2, 4, 7].into_iter().enumerate() {
         let first = 10_000 * round + 1;
         let mut child = under_way(first, some, &dir);
-        child.kill().unwrap();
-        child.wait().unwrap();
-        is_staging_of(child.id(), &found(&dir).1);
+        let id = child.id();
+        child.kill();
+        is_staging_of(id, &found(&dir).1);
     }
     all_whole(&dir);
     let before = found(&dir).0.len();
@@ -224,9 +250,7 @@ fn killed() {
 fn stopped() {
     for stop in [INTERRUPT, TERMINATE] {
         let dir = fresh(&format!("stopped-{stop}"));
-        let child = under_way(1, 3, &dir);
-        signal(child.id(), stop);
-        let ran = ended(child);
+        let ran = under_way(1, 3, &dir).stopped_by(stop);
         assert_eq!(ran.status, Some(3), "{ran:?}");
         assert_eq!(found(&dir).1, [""; 0]);
         all_whole(&dir);
@@ -243,8 +267,7 @@ fn two_at_once() {
     let (pads, others) = found(&dir);
     is_staging_of(child.id(), &others);
     wait_until("it goes on", || found(&dir).0.len() > pads.len());
-    signal(child.id(), INTERRUPT);
-    assert_eq!(ended(child).status, Some(3));
+    assert_eq!(child.stopped_by(INTERRUPT).status, Some(3));
     assert_eq!(found(&dir).1, [""; 0]);
     all_whole(&dir);
     let both = [60_001, 70_001].map(|first| pallet(WAY, first, 6, &dir).spawn().unwrap());

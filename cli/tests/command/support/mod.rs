@@ -25,7 +25,7 @@ pub const PIPE: &str = "Broken pipe (os error 32)";
 /// What the program says of what it does not overwrite.
 pub const THERE: &str = "it is there already";
 
-/// The commands, in the order of the spec.
+/// The commands.
 pub const COMMANDS: [&str; 7] = [
     "pallet",
     "seal",
