@@ -314,12 +314,26 @@ fn two_at_once_with_the_same_numbers() {
     pads.iter().for_each(|pad| pad.is_whole(WAY));
 }
 
+/// Signals that whoever called it had ignored stay ignored, as by `nohup`.
+#[test]
+fn ignored_signals() {
+    let dir = format!("{}/pallet", fresh("ignored"));
+    let args = ["pallet", "--count=200", "--key-size=16", &dir];
+    let child = by_shell("trap '' INT;", "", &args).spawn().unwrap();
+    wait_until("a pad", || fs::metadata(format!("{dir}/00000001")).is_ok());
+    signal(child.id(), INTERRUPT);
+    assert_eq!(ended(child).status, Some(0));
+    assert_eq!(names(&dir).len(), 200);
+}
+
 /// What a user keeps in hidden folders of other names stays.
 #[test]
 fn other_hidden_folders_stay() {
     let dir = fresh("hidden");
-    fs::create_dir(format!("{dir}/.kept")).unwrap();
-    put(format!("{dir}/.kept/note"), b"stay");
+    for name in [".kept", ".pallet-notes", ".pallet-1", ".pallet-1-2-3"] {
+        fs::create_dir(format!("{dir}/{name}")).unwrap();
+        put(format!("{dir}/{name}/note"), b"stay");
+    }
     let before = tree(&dir);
     pads(WAY, 1, &dir);
     let after = tree(&dir);

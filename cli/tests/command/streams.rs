@@ -1,10 +1,12 @@
 //! Standard streams that are closed, full or broken.
 
 use crate::support::desk::{Desk, INPUTS, MESSAGE, WRITING};
-use crate::support::system::broken_pipe;
+use crate::support::system::{broken_pipe, pipe, signal, TERMINATE};
 use crate::support::tree::{get, kept, names};
-use crate::support::{by_shell, command, finish, Ran, CLOSED, COMMANDS, FULL, PIPE};
+use crate::support::{by_shell, command, ended, finish, wait_until};
+use crate::support::{Ran, CLOSED, COMMANDS, FULL, PIPE};
 use std::fs::OpenOptions;
+use std::io::{Read, Write};
 
 /// All that prints to standard output: the arguments of each.
 fn printing(desk: &Desk) -> Vec<Vec<String>> {
@@ -57,19 +59,37 @@ fn a_closed_standard_output() {
     });
 }
 
-/// `open` says Valid on standard output: where it cannot, the status is 3, and no part of a file is left.
+/// `open` says Valid on standard output: where it cannot, the status is 3, and nothing is left.
 #[test]
 fn valid_cannot_be_told() {
     let desk = Desk::new("valid-untold");
-    let before = names(&desk.pad.folder);
-    let ran = finish(&mut by_shell("", ">&-", &desk.args("open")));
-    ran.hindered_by(&["bowlinette open: ", "standard output", CLOSED]);
-    let mut after = names(&desk.pad.folder);
-    if let Some(at) = after.iter().position(|name| name == "out") {
-        assert_eq!(get(&desk.at("out")), MESSAGE);
-        after.remove(at);
+    for (streams, error) in [(">&-", CLOSED), (">/dev/full", FULL)] {
+        let ran = kept(&desk.pad.folder, || {
+            finish(&mut by_shell("", streams, &desk.args("open")))
+        });
+        ran.hindered_by(&["bowlinette open: ", "standard output", error]);
     }
-    assert_eq!(before, after);
+}
+
+/// What a pipe holds that nobody reads.
+const PIPE_ROOM: usize = 65_536;
+
+/// A signal while the output has its hidden name: status 3, and neither name is there. The verdict, which comes
+/// before the output appears, waits for a pipe that is full.
+#[test]
+fn stopped_before_it_appears() {
+    let desk = Desk::new("stopped-output");
+    let before = names(&desk.pad.folder);
+    let (mut read, mut write) = pipe();
+    write.write_all(&[0; PIPE_ROOM]).unwrap();
+    let child = desk.command("open").stdout(write).spawn().unwrap();
+    wait_until("a hidden name", || names(&desk.pad.folder) != before);
+    signal(child.id(), TERMINATE);
+    read.read_exact(&mut [0; PIPE_ROOM]).unwrap();
+    let ran = ended(child);
+    let what = format!("the output {}", desk.at("out"));
+    ran.hindered("open", &what, "stopped by a signal");
+    assert_eq!(names(&desk.pad.folder), before);
 }
 
 /// What prints nothing to standard output does not need one; nor is standard error needed to be done.

@@ -64,7 +64,7 @@ fn every_refusal_explained() {
     all.sort();
     let due: Vec<String> = all.into_iter().map(line).collect();
     let text = run(&["explain"]).text();
-    let lines: Vec<&str> = text.lines().map(str::trim_start).collect();
+    let lines: Vec<&str> = text.lines().collect();
     assert_eq!(lines, due, "in the order of their numbers");
 }
 
@@ -125,7 +125,9 @@ fn wrong_lines() {
         {
             misused(&without(&right, at, 2));
             misused(&[&right[..], &right[at..at + 2]].concat());
-            misused(&[&without(&right, at, 2), std::slice::from_ref(option)].concat());
+            let alone = [&without(&right, at, 2), std::slice::from_ref(option)].concat();
+            misused(&alone);
+            misused(&[&alone[..], &[String::new()]].concat());
         }
     }
 }
@@ -136,7 +138,7 @@ fn without(args: &[String], at: usize, count: usize) -> Vec<String> {
 }
 
 /// Options of a pallet that are wrong usage.
-const WRONG_PALLETS: [&str; 28] = [
+const WRONG_PALLETS: [&str; 29] = [
     "--key-size 16",
     "--count 1",
     "--count 0 --key-size 16",
@@ -154,6 +156,7 @@ const WRONG_PALLETS: [&str; 28] = [
     "--count 1 --key-size 16 --schedule LEA",
     "--count 1 --key-size 16 --jobs 0",
     "--count 1 --key-size 16 --jobs x",
+    "--count 1 --key-size 16 --jobs 257",
     "--count 1 --key-size 16 --first x",
     "--count 1 --key-size 16 --first 100000000",
     "--count 1 --key-size 16 --first 000000001",
