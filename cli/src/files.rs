@@ -56,11 +56,11 @@ impl Source {
         let mut file = File::open(&self.named.place)?;
         let length = file.metadata()?.len() as usize;
         // A length of 0 may be that of a pipe or a device.
-        if length == 0 || length >= most {
+        if length == 0 {
             return front(|room| file.read(room), most);
         }
-        let bytes = front(|room| file.read(room), length + 1)?;
-        if bytes.len() != length {
+        let bytes = front(|room| file.read(room), most.min(length + 1))?;
+        if bytes.len() != most.min(length) {
             return Err(io::Error::new(
                 ErrorKind::Other,
                 "it changed while it was read",

@@ -22,14 +22,18 @@ impl Progress {
     pub fn new(count: u64) -> Progress {
         let (begun, terminal) = (Instant::now(), system::is_terminal(2));
         let pause = Duration::from_millis(if terminal { 100 } else { 1000 });
-        Progress {
+        let progress = Progress {
             count,
             done: AtomicU64::new(0),
             begun,
             pause,
             terminal,
             told: Mutex::new(begun),
+        };
+        if terminal {
+            streams::tell(&progress.shown(0));
         }
+        progress
     }
 
     pub fn done(&self) -> u64 {

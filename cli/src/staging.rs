@@ -48,7 +48,7 @@ impl Staging {
         })
     }
 
-    /// The lowest pad that is there already, of numbers from the first on.
+    /// The lowest pad of these numbers that is there already.
     pub fn taken(&self, numbers: RangeInclusive<u64>) -> io::Result<Option<String>> {
         let mut lowest = None;
         for entry in fs::read_dir(&self.pallet)? {

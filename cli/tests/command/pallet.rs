@@ -1,11 +1,12 @@
 //! Pallets: what is in their folders, numbers that are there already, and pallets that are stopped or killed.
 
 use crate::support::pads::{on_each_way, pads, pallet, Pad, Way};
-use crate::support::system::{bound, signal, INTERRUPT, TERMINATE};
+use crate::support::system::{bound, signal, terminal, INTERRUPT, TERMINATE};
 use crate::support::tree::{by_mode, fresh, kept, mode, names, put, tree};
 use crate::support::{by_shell, command, ended, finish, run, wait_until};
 use crate::support::{Ran, DENIED, MISSING, THERE};
 use reference::Size;
+use std::io::Read;
 use std::process::Child;
 use std::{fs, io, thread};
 
@@ -312,6 +313,26 @@ fn two_at_once_with_the_same_numbers() {
     assert_eq!(others, [""; 0]);
     assert!(!pads.is_empty());
     pads.iter().for_each(|pad| pad.is_whole(WAY));
+}
+
+/// On a terminal there is a bar, from the beginning, which the last line takes the place of.
+#[test]
+fn a_bar_on_a_terminal() {
+    let dir = fresh("bar");
+    let (mut person, programs) = terminal();
+    let mut child = pallet(WAY, 1, 3, &dir).stderr(programs).spawn().unwrap();
+    assert_eq!(child.wait().unwrap().code(), Some(0));
+    let mut shown = [0; 4096];
+    let length = person.read(&mut shown).unwrap();
+    let shown = String::from_utf8_lossy(&shown[..length]);
+    let bar = format!("\r[{}] 0 of 3 pads", " ".repeat(40));
+    assert!(shown.starts_with(&bar), "{shown:?}");
+    let last = shown
+        .rsplit('\r')
+        .find(|line| line.len() > 1)
+        .unwrap_or_default();
+    let whole = last.starts_with("\x1b[K3 of 3 pads, 6 books in ") && last.contains("books/s");
+    assert!(whole, "{shown:?}");
 }
 
 /// Signals that whoever called it had ignored stay ignored, as by `nohup`.

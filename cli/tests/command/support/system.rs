@@ -1,6 +1,6 @@
 //! What the tests ask of the system itself, by the functions of the C library.
 
-use std::ffi::CString;
+use std::ffi::{CStr, CString};
 use std::fs::File;
 use std::io::{self, Write};
 use std::os::raw::{c_char, c_int, c_ulong, c_void};
@@ -11,7 +11,6 @@ use std::process::{Command, Stdio};
 pub const INTERRUPT: c_int = 2;
 pub const KILL: c_int = 9;
 pub const TERMINATE: c_int = 15;
-const FILE_TOO_LARGE: c_int = 25;
 
 /// Who may nothing, and another one who has no other process.
 const NOBODY: u32 = 65_534;
@@ -22,6 +21,7 @@ const FILE_LENGTH: c_int = 1;
 const PROCESSES: c_int = 6;
 const MEMORY: c_int = 9;
 
+const READ_AND_WRITE: c_int = 2;
 const CLOSED_ON_START: c_int = 0o2_000_000;
 const NEW_MOUNTS: c_int = 0x0002_0000;
 const PRIVATE_ALL: c_ulong = 0x0004_0000 | 0x4000;
@@ -35,7 +35,10 @@ mod c {
         pub fn pipe2(ends: *mut c_int, flags: c_int) -> c_int;
         pub fn mkfifo(path: *const c_char, mode: u32) -> c_int;
         pub fn setrlimit(what: c_int, limit: *const [c_ulong; 2]) -> c_int;
-        pub fn signal(signal: c_int, handler: usize) -> usize;
+        pub fn posix_openpt(flags: c_int) -> c_int;
+        pub fn grantpt(terminal: c_int) -> c_int;
+        pub fn unlockpt(terminal: c_int) -> c_int;
+        pub fn ptsname_r(terminal: c_int, name: *mut c_char, room: usize) -> c_int;
         pub fn unshare(what: c_int) -> c_int;
         pub fn mount(
             from: *const c_char,
@@ -82,11 +85,7 @@ pub fn bound(command: &mut Command) -> &mut Command {
 }
 
 fn limited(command: &mut Command, what: c_int, limit: c_ulong) -> &mut Command {
-    // 1 is the handler by which a signal is ignored: writing then says that the file is too large.
-    let set = move || {
-        unsafe { c::signal(FILE_TOO_LARGE, 1) };
-        told(unsafe { c::setrlimit(what, &[limit; 2]) })
-    };
+    let set = move || told(unsafe { c::setrlimit(what, &[limit; 2]) });
     unsafe { command.pre_exec(set) }
 }
 
@@ -114,6 +113,21 @@ pub fn pipe() -> (File, File) {
     told(unsafe { c::pipe2(ends.as_mut_ptr(), CLOSED_ON_START) }).expect("a pipe");
     let [read, write] = ends.map(|end| unsafe { File::from_raw_fd(end) });
     (read, write)
+}
+
+/// A terminal: the end of whoever sits at it, and that of programs.
+pub fn terminal() -> (File, File) {
+    let mut name = [0; 64];
+    let (person, path) = unsafe {
+        let end = c::posix_openpt(READ_AND_WRITE);
+        told(c::grantpt(end)).expect("a terminal");
+        told(c::unlockpt(end)).expect("a terminal");
+        told(c::ptsname_r(end, name.as_mut_ptr(), name.len())).expect("its name");
+        (File::from_raw_fd(end), CStr::from_ptr(name.as_ptr()))
+    };
+    let path = path.to_str().expect("a path");
+    let programs = File::options().write(true).open(path);
+    (person, programs.expect("the other end"))
 }
 
 /// A pipe that nobody reads from. For an instant a process that another test starts may have the other end too.
