@@ -1,7 +1,8 @@
 //! Pallets: what is in their folders, numbers that are there already, and pallets that are stopped or killed.
 
 use crate::support::pads::{on_each_way, pads, pallet, Pad, Way};
-use crate::support::system::{bound, signal, terminal, INTERRUPT, TERMINATE};
+use crate::support::system::{bound, heeding_signals, signal, terminal};
+use crate::support::system::{INTERRUPT, TERMINATE};
 use crate::support::tree::{by_mode, fresh, kept, mode, names, put, tree};
 use crate::support::{by_shell, command, ended, finish, run, wait_until};
 use crate::support::{Ran, DENIED, MISSING, THERE};
@@ -192,7 +193,8 @@ fn no_such_folder() {
 
 /// A pallet of many pads from a number on, which has made some of them.
 fn under_way(first: usize, some: usize, dir: &str) -> UnderWay {
-    let mut child = pallet(WAY, first, MANY, dir).spawn().unwrap();
+    let mut pallet = pallet(WAY, first, MANY, dir);
+    let mut child = heeding_signals(&mut pallet).spawn().unwrap();
     // What it tells of its progress is read to the end, or it would wait for a reader.
     let mut err = child.stderr.take().unwrap();
     thread::spawn(move || io::copy(&mut err, &mut io::sink()));
@@ -319,7 +321,10 @@ fn two_at_once_with_the_same_numbers() {
 #[test]
 fn a_bar_on_a_terminal() {
     let dir = fresh("bar");
-    let (mut person, programs) = terminal();
+    let (mut person, programs) = match terminal() {
+        Ok(ends) => ends,
+        Err(error) => return eprintln!("no terminal here ({error}), so the bar is not looked at"),
+    };
     let mut child = pallet(WAY, 1, 3, &dir).stderr(programs).spawn().unwrap();
     assert_eq!(child.wait().unwrap().code(), Some(0));
     let mut shown = [0; 4096];

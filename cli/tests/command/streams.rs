@@ -1,7 +1,7 @@
 //! Standard streams that are closed, full or broken.
 
 use crate::support::desk::{Desk, INPUTS, MESSAGE, WRITING};
-use crate::support::system::{broken_pipe, pipe, signal, TERMINATE};
+use crate::support::system::{broken_pipe, heeding_signals, pipe, signal, TERMINATE};
 use crate::support::tree::{get, kept, names};
 use crate::support::{by_shell, command, ended, finish, wait_until};
 use crate::support::{Ran, CLOSED, COMMANDS, FULL, PIPE};
@@ -82,7 +82,8 @@ fn stopped_before_it_appears() {
     let before = names(&desk.pad.folder);
     let (mut read, mut write) = pipe();
     write.write_all(&[0; PIPE_ROOM]).unwrap();
-    let child = desk.command("open").stdout(write).spawn().unwrap();
+    let mut open = desk.command("open");
+    let child = heeding_signals(open.stdout(write)).spawn().unwrap();
     wait_until("a hidden name", || names(&desk.pad.folder) != before);
     signal(child.id(), TERMINATE);
     read.read_exact(&mut [0; PIPE_ROOM]).unwrap();

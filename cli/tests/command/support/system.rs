@@ -8,6 +8,7 @@ use std::os::unix::io::FromRawFd;
 use std::os::unix::process::CommandExt;
 use std::process::{Command, Stdio};
 
+const HANG_UP: c_int = 1;
 pub const INTERRUPT: c_int = 2;
 pub const KILL: c_int = 9;
 pub const TERMINATE: c_int = 15;
@@ -35,6 +36,7 @@ mod c {
         pub fn pipe2(ends: *mut c_int, flags: c_int) -> c_int;
         pub fn mkfifo(path: *const c_char, mode: u32) -> c_int;
         pub fn setrlimit(what: c_int, limit: *const [c_ulong; 2]) -> c_int;
+        pub fn signal(signal: c_int, handler: usize) -> usize;
         pub fn posix_openpt(flags: c_int) -> c_int;
         pub fn grantpt(terminal: c_int) -> c_int;
         pub fn unlockpt(terminal: c_int) -> c_int;
@@ -89,6 +91,19 @@ fn limited(command: &mut Command, what: c_int, limit: c_ulong) -> &mut Command {
     unsafe { command.pre_exec(set) }
 }
 
+/// Lets a command be ended by signals, also where the tests are not: what is started in the background, as the tests
+/// may be, ignores some of them, and so does what it starts.
+pub fn heeding_signals(command: &mut Command) -> &mut Command {
+    const AS_EVER: usize = 0;
+    let heed = || {
+        for number in [HANG_UP, INTERRUPT, TERMINATE] {
+            unsafe { c::signal(number, AS_EVER) };
+        }
+        Ok(())
+    };
+    unsafe { command.pre_exec(heed) }
+}
+
 /// Lets a command write files of no more than so many bytes.
 pub fn with_short_files(command: &mut Command, bytes: u64) -> &mut Command {
     limited(command, FILE_LENGTH, bytes)
@@ -116,18 +131,19 @@ pub fn pipe() -> (File, File) {
 }
 
 /// A terminal: the end of whoever sits at it, and that of programs.
-pub fn terminal() -> (File, File) {
+pub fn terminal() -> io::Result<(File, File)> {
     let mut name = [0; 64];
     let (person, path) = unsafe {
         let end = c::posix_openpt(READ_AND_WRITE);
-        told(c::grantpt(end)).expect("a terminal");
-        told(c::unlockpt(end)).expect("a terminal");
-        told(c::ptsname_r(end, name.as_mut_ptr(), name.len())).expect("its name");
-        (File::from_raw_fd(end), CStr::from_ptr(name.as_ptr()))
+        is_yes(end >= 0)?;
+        let person = File::from_raw_fd(end);
+        told(c::grantpt(end))?;
+        told(c::unlockpt(end))?;
+        told(c::ptsname_r(end, name.as_mut_ptr(), name.len()))?;
+        (person, CStr::from_ptr(name.as_ptr()))
     };
     let path = path.to_str().expect("a path");
-    let programs = File::options().write(true).open(path);
-    (person, programs.expect("the other end"))
+    Ok((person, File::options().write(true).open(path)?))
 }
 
 /// A pipe that nobody reads from. For an instant a process that another test starts may have the other end too.
