@@ -20,7 +20,7 @@ use cipher::size::KeySize;
 use words::word::{bytes, words, xor};
 
 // Four blocks, in words.
-#[derive(Drop)]
+#[derive(Clone, Copy)]
 struct Four {
     a: [u32; 4],
     b: [u32; 4],

@@ -12,7 +12,7 @@ use cipher::schedules::{Schedule, ScheduleFound, key_rows};
 use cipher::size::{KeySize, SizeFound};
 
 // The verdict on a tag, or why there is none.
-#[derive(Drop)]
+#[derive(Clone, Copy)]
 pub enum Checked {
     Valid,
     Invalid,

@@ -1,6 +1,9 @@
 // The C interface; include/bowlinette.h declares the same. Every function answers 0, or the number of
 // a refusal, in which case nothing behind a pointer has changed. Where there is a key, `schedule` in front of
 // it is 0 for LEA's own and 1 for WF-LEA's; any other number is refused before all else (34).
+
+#![tactic(auto)]
+
 ghost use Rattle.std.specs.Prelude.{◌≡◌};
 ghost use Rattle.cipher.specs.Answers.{block_told, encipher_answer, decipher_answer, rounds_answer, row_answer, set_checked, chain_checked};
 ghost use Rattle.cipher.specs.Refusal.{written_of};

@@ -7,7 +7,7 @@ ghost use Rattle.cipher.specs.Answers.{block_told};
 use crate::refusal::{Outcome, Refusal};
 
 // A block, or the refusal and zeros.
-#[derive(Drop)]
+#[derive(Clone, Copy)]
 pub struct BlockAnswer {
     pub outcome: Outcome,
     pub block: [u8; 16],

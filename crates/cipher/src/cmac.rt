@@ -12,7 +12,7 @@ use crate::{lengths, rows};
 use words::word::{bytes, words, xor};
 
 // The subkeys of a key.
-#[derive(Drop)]
+#[derive(Clone, Copy)]
 pub struct SubkeyPair {
     pub k1: [u8; 16],
     pub k2: [u8; 16],

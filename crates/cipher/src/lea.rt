@@ -14,7 +14,7 @@ use crate::{lengths, rows};
 use words::word::{bytes, words};
 
 // A row of round keys, or the refusal and zeros.
-#[derive(Drop)]
+#[derive(Clone, Copy)]
 pub struct RowAnswer {
     pub outcome: Outcome,
     pub row: [u32; 6],

@@ -1,6 +1,8 @@
 // The shared cipher part: key sizes, refusals, LEA's rounds under the rows of either schedule, what CMAC takes from them, codings.
 // Pad, driver, archive and works stand above it and use what its contracts and laws say.
 
+#![tactic(auto)]
+
 pub mod lengths; // lengths.rt: the lengths that are the same for all key sizes
 pub mod size; // size.rt: the three key sizes and the lengths that go with them
 pub mod refusal; // refusal.rt: what an operation refuses, by number

@@ -13,14 +13,14 @@ pub const LEA: u8 = 0;
 
 pub const WF_LEA: u8 = 1;
 
-#[derive(Drop)]
+#[derive(Clone, Copy)]
 pub enum Schedule {
     Lea,
     WfLea,
 }
 
 // What a number tells: the schedule that has it, or none.
-#[derive(Drop)]
+#[derive(Clone, Copy)]
 pub enum ScheduleFound {
     Numbered(Schedule),
     Unnumbered,

@@ -5,7 +5,7 @@ ghost use Rattle.cipher.specs.KeySize as S;
 
 use crate::lengths;
 
-#[derive(Drop)]
+#[derive(Clone, Copy)]
 pub enum KeySize {
     Bytes16,
     Bytes24,
@@ -13,7 +13,7 @@ pub enum KeySize {
 }
 
 // What a length tells: the key size that it belongs to, or none.
-#[derive(Drop)]
+#[derive(Clone, Copy)]
 pub enum SizeFound {
     Found(KeySize),
     Unknown,

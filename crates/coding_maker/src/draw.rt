@@ -12,7 +12,7 @@ use cipher::invert::wide;
 use cipher::lengths;
 
 // A number that was drawn, and the place of the first byte that is left.
-#[derive(Drop)]
+#[derive(Clone, Copy)]
 struct Drawn {
     number: usize,
     at: usize,

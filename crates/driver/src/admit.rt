@@ -10,7 +10,7 @@ use cipher::refusal::Refusal;
 use cipher::size::{KeySize, SizeFound};
 
 // The size of a book's key, or why the book is refused.
-#[derive(Drop)]
+#[derive(Clone, Copy)]
 pub enum Admitted {
     Size(KeySize),
     Refused(Refusal),

@@ -1,5 +1,8 @@
 // The driver (document 01, "Pad, driver, archive"): rounds from the tables of a book, sealing, and
 // the tag session. It has no key, no coding and no builder.
+
+#![tactic(auto)]
+
 mod admit;
 pub mod lending;
 pub mod lent;

@@ -13,7 +13,7 @@ use cipher::lengths;
 use cipher::refusal::{Outcome, Refusal};
 
 // A session: the block so far, how many block calls were taken, and whether the last call was.
-#[derive(Drop)]
+#[derive(Clone, Copy)]
 pub struct Session {
     pub block: [u8; 16],
     pub taken: u16,
@@ -21,14 +21,14 @@ pub struct Session {
 }
 
 // What beginning and a block call give.
-#[derive(Drop)]
+#[derive(Clone, Copy)]
 pub struct SessionAnswer {
     pub outcome: Outcome,
     pub session: Session,
 }
 
 // What a last call gives: a tag, or the refusal and zeros, and the session.
-#[derive(Drop)]
+#[derive(Clone, Copy)]
 pub struct TagAnswer {
     pub answer: BlockAnswer,
     pub session: Session,

@@ -9,7 +9,7 @@ use cipher::lengths;
 use cipher::refusal::{Outcome, Refusal};
 
 // What a record is, by its kind byte.
-#[derive(Drop)]
+#[derive(Clone, Copy)]
 pub enum Kind {
     PadNumber,
     Iv,

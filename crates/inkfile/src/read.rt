@@ -11,7 +11,7 @@ use cipher::refusal::{Outcome, Refusal};
 use words::word::word;
 
 // What is seen of a record: whether it is one, its kind byte and its length.
-#[derive(Drop)]
+#[derive(Clone, Copy)]
 pub struct Seen {
     pub outcome: Outcome,
     pub kind: u8,
@@ -19,7 +19,7 @@ pub struct Seen {
 }
 
 // The records of a file in order: their kinds, places of the bytes, lengths.
-#[derive(Drop)]
+#[derive(Clone, Copy)]
 pub struct Records {
     pub outcome: Outcome,
     pub count: usize,
@@ -30,7 +30,7 @@ pub struct Records {
 
 // Where the fields of an ink file stand: places of the first four, the length of the sealed blocks, the
 // number of remarks, and of each its kind, place and length. Zeros where there is nothing.
-#[derive(Drop)]
+#[derive(Clone, Copy)]
 pub struct Ink {
     pub outcome: Outcome,
     pub pad_number: usize,

@@ -2,7 +2,7 @@
 -- given, and a number only where its condition holds. An operation's refusals are a list of tests, each with its
 -- number, in the order of the numbers; the first test that applies decides.
 use Rattle.std.specs.Prelude.{◌≡◌, ◌↔◌, Bool, true, false, cond, not, ◌&&◌, ◌||◌, List, [], ◌∷◌, ℕ, eqb}
-use Rattle.std.proofs.Math.Option.{Option, none, some, Option·elim}
+use Rattle.std.proofs.Math.Option.{Option, none, some, Option-elim}
 
 -- the answer to the first test that applies, or, where none does, `go`
 unfoldable pub first : {A : Type 0} → List (Bool × ℕ) → (ℕ → A) → A → A
@@ -47,6 +47,6 @@ pub record FirstOf (order : List ℕ) (ts : List (Bool × ℕ)) (n : ℕ) : Type
 -- the refusals of a list of tests go by an order: what is answered goes by the number that is given alone; a number is given exactly
 -- where it is the first of the order that applies, and none exactly where none applies
 pub record GoesBy (order : List ℕ) (ts : List (Bool × ℕ)) : Type 1 where
-  pub answer : {A : Type 0} (refuse : ℕ → A) (go : A) → first ts refuse go ≡ Option·elim (given ts) go refuse
+  pub answer : {A : Type 0} (refuse : ℕ → A) (go : A) → first ts refuse go ≡ Option-elim (given ts) go refuse
   pub number : (n : ℕ) → (given ts ≡ some n) ↔ FirstOf order ts n
   pub nothing : (given ts ≡ none) ↔ ((n : ℕ) → applies ts n ≡ false)

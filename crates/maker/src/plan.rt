@@ -7,7 +7,7 @@ ghost use Rattle.maker.specs.declared.plan.Rule as D;
 use cipher::lengths;
 
 // A word rule: word `to` of each set from 1 on is coded as word `from` of the set before.
-#[derive(Drop)]
+#[derive(Clone, Copy)]
 pub struct Rule {
     pub from: usize,
     pub to: usize,

@@ -15,7 +15,7 @@ use cipher::refusal::{Outcome, Refusal, Written};
 
 // What coding for a tag answers: how many bytes were written and their kind (01's term), or why
 // none.
-#[derive(Drop)]
+#[derive(Clone, Copy)]
 pub enum TagCode {
     Coded(usize, u8),
     Refused(Refusal),

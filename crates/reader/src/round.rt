@@ -12,7 +12,7 @@ use table_reader::entry::joined;
 use table_reader::sums::add_two;
 
 // Byte m of the new words 1 to 3, and the borrow out of each.
-#[derive(Drop)]
+#[derive(Clone, Copy)]
 pub struct ByteOfEach {
     pub word1: u8,
     pub word2: u8,

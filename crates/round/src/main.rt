@@ -1,9 +1,12 @@
 // The round program (document 01, "Table of examples"): standard input is a key length byte, a key,
 // a chain and one coded block. It prints the opened block after the first round and after the last,
 // or a refusal.
+
+#![tactic(auto)]
+
 ghost use Rattle.std.specs.Prelude.{◌≡◌, ◌≤◌, length};
 ghost use Rattle.io.specs.Counts.{IsPrefixLen};
-ghost use Rattle.round.specs.Round.{wanted as wantedBytes};
+ghost use Rattle.round.specs.Round.{wanted as wanted_bytes};
 
 use cipher::invert::wide;
 use cipher::lengths;
@@ -32,7 +35,7 @@ fn room() -> [u8; LONGEST]
 
 // How many bytes are to be read, by the first of them: one where it is no length of a key.
 fn wanted(first: u8) -> usize
-    ensures { (result ≡ wantedBytes first) × (1 ≤ result) × (result ≤ 30513) }
+    ensures { (result ≡ wanted_bytes first) × (1 ≤ result) × (result ≤ 30513) }
 {
     let SizeFound::Found(size) = KeySize::of_key_len(wide(first)) else {
         return 1;

@@ -7,7 +7,7 @@ ghost use Rattle.round.specs.Text.{hex_digit, hex_of, line, decimal, refused_tex
 const LONGEST: usize = 2 + 3 + 2 * (32 + 1);
 
 // The text that is printed: the first `length` bytes of `text`; after them are zeros.
-#[derive(Drop)]
+#[derive(Clone, Copy)]
 pub struct Report {
     pub text: [u8; LONGEST],
     pub length: usize,

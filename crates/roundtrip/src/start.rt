@@ -7,7 +7,7 @@ use cipher::refusal::{Outcome, Refusal};
 use cipher::size::{KeySize, SizeFound};
 
 // The size of the key of a book that was built.
-#[derive(Drop)]
+#[derive(Clone, Copy)]
 pub enum Started {
     Built(KeySize),
     Refused(Refusal),

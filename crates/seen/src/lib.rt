@@ -1,5 +1,8 @@
 // The seen word of a coding (document 02, 2026-04): its 16 entries are read once, and each that is
 // below 16 sets a bit.
+
+#![tactic(auto)]
+
 ghost use Rattle.std.specs.Prelude.{◌≡◌, cond, ◌+◌, ◌/◌, ◌%◌, ◌^◌, ◌≤◌, eqb, length, get_or};
 ghost use Rattle.std.specs.Int.Count.{ones};
 ghost use Rattle.seen.specs.SeenWord.{bit_of, seen_word};

@@ -1,4 +1,7 @@
 // SHA-256 (FIPS 180-4) of a message that with its padding is one block: one of at most 55 bytes.
+
+#![tactic(auto)]
+
 ghost use Rattle.std.specs.Prelude.{◌≡◌, ◌≤◌, length};
 ghost use Rattle.sha256.specs.Sha256 as S;
 

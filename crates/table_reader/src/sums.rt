@@ -7,7 +7,7 @@ ghost use Rattle.table_reader.specs.Reading.{TwoIs, sum_bytes};
 use crate::entry::{add_at, carry, high, joined, low};
 
 // Two half bytes of a sum, the lower one in the low half, and the carry out of them.
-#[derive(Drop)]
+#[derive(Clone, Copy)]
 pub struct Two {
     pub sum: u8,
     pub carry: usize,

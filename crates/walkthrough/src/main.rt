@@ -2,6 +2,9 @@
 // desk, printed station by station for people to follow; then its end again with one bit of the sealed
 // file flipped, and with one bit of the tag flipped. Nothing is read: key, chain and ink are made by
 // fixed rules.
+
+#![tactic(auto)]
+
 ghost use Rattle.std.specs.Prelude.{◌≡◌, length};
 
 use cipher::lengths;

@@ -1,5 +1,8 @@
 // WF-LEA's key schedule (document 000, chapter 2, section 3): each row is cut from one digest, of the key and one
 // byte more, which is the number of the row counted from 1.
+
+#![tactic(auto)]
+
 ghost use Rattle.std.specs.Prelude.{◌≡◌, ◌≤◌, length};
 ghost use Rattle.sha256.specs.Sha256.{sha256};
 ghost use Rattle.wf_lea.specs.WfLea as R;
