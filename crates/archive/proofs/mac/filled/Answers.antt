@@ -1,0 +1,27 @@
+-- `mac::filled` meets its contract. The invariant: the first k bytes are copied, the others zero.
+use mathlib.Core.Path.{refl}
+use native.Mathlib.Omega.{arith}
+use lib.ListN.{get_or}
+use Rattle.lists.specs.Tabulation.{tab}
+use Rattle.lists.proofs.PartLaws.{fill_turn}
+use Rattle.archive.proofs.MacLaws.{filled_part, filled_whole}
+use Rattle.archive.proofs.mac.filled.Goals as goal
+
+pub loop-k-init : goal.loop-k-init
+unfolding tab
+loop-k-init c = (omega arith, refl)
+
+pub loop-k-preserved : goal.loop-k-preserved
+loop-k-preserved c =
+    let l = c.before.before in
+    (omega arith, fill_turn (λ i. get_or l.args.part.now i 0) 16 l.loop-k.b l.loop-k.k _ l.loop-k.invariant.1 refl (omega arith))
+
+pub returns-then-n-lt-BLOCK : goal.returns-then-n-lt-BLOCK
+returns-then-n-lt-BLOCK c =
+    let l = c.before.before in
+    filled_part l.args.part.now l.loop-k.b l.loop-k.k l.loop-k.invariant.1 (omega arith) (omega arith)
+
+pub returns-else-n-lt-BLOCK : goal.returns-else-n-lt-BLOCK
+returns-else-n-lt-BLOCK c =
+    let l = c.before.before in
+    filled_whole l.args.part.now l.loop-k.b l.loop-k.k l.loop-k.invariant.1 (omega arith) (omega arith)

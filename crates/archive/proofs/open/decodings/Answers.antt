@@ -1,0 +1,21 @@
+-- `open::decodings` meets its contract.
+use mathlib.Core.Path.{ap, ◌∙◌}
+use borrow.Author.Rules.{rules}
+use Rattle.cipher.specs.Images.{images_of}
+use Rattle.archive.proofs.OpenedLaws.{set_inverts, codes_ready}
+use Rattle.archive.proofs.open.decodings.Goals as goal
+
+pub invert-requires : goal.invert-requires
+invert-requires c =
+    let v = set_inverts _ c.requires.0 in
+    (v.0, search rules, v.1)
+
+pub images-requires : goal.images-requires
+images-requires c =
+    let i = c.before.before.before in
+    let s = i.before.before.before.before in
+    let r = codes_ready s.args.set.now _ s.requires.0 i.invert.ensures in
+    (r.0, r.1, search rules)
+
+pub returns : goal.returns
+returns c = c.images.ensures ∙ ap images_of c.invert.ensures

@@ -1,0 +1,31 @@
+-- `groups::start` meets its contract. The invariant: k bytes are written, and the rest is as it was.
+use mathlib.Core.Path.{refl, ◌∙◌}
+use native.Mathlib.Omega.{arith}
+use lib.ListN.{length-set}
+use Rattle.lists.specs.Tabulation.{tab}
+use Rattle.lists.proofs.PartLaws.{tab_turn, tab_full}
+use Rattle.book.proofs.GroupLaws.{start_byte, start_low, start_is}
+use Rattle.book.proofs.groups.start.Goals as goal
+
+pub loop-k-init : goal.loop-k-init
+unfolding tab
+loop-k-init c = (omega arith, refl, refl)
+
+pub start_byte-requires : goal.start_byte-requires
+start_byte-requires c =
+    let s = c.before.before.before in
+    start_low s.args.last.now s.requires.0 s.loop-k.k (omega arith)
+
+pub loop-k-preserved : goal.loop-k-preserved
+loop-k-preserved c =
+    let s = c.before.before.before.before in (
+      omega arith,
+      simp length-set s.loop-k.invariant.1,
+      tab_turn (start_byte s.args.last.now) _ _ _ _ s.loop-k.invariant.2 c.start_byte.ensures (omega arith),
+    )
+
+pub shape_of-out : goal.shape_of-out
+shape_of-out c = c.loop-k.invariant.1
+
+pub returns : goal.returns
+returns c = tab_full _ _ _ 16 c.loop-k.k c.loop-k.invariant.2 (omega arith) (omega arith) ∙ start_is c.args.last.now

@@ -1,0 +1,13 @@
+-- `bowlinette_code_for_tag` meets its contract.
+use mathlib.Core.Path.{ap}
+use Rattle.pad.specs.Answers.{tag_code_told}
+use Rattle.bowlinette.proofs.IntoLaws.{kept_taken, kept_refused}
+use Rattle.bowlinette.proofs.bowlinette_code_for_tag.Goals as goal
+
+pub returns-in-Coded : goal.returns-in-Coded
+returns-in-Coded c = kept_taken _ _ _ _ c.code_for_tag-code.ensures _ (ap tag_code_told c.in-Coded.is)
+
+pub returns-in-Refused : goal.returns-in-Refused
+returns-in-Refused c =
+    let why = c.before.before in
+    kept_refused _ _ _ _ why.code_for_tag-code.ensures _ why.in-Refused.why _ (ap tag_code_told why.in-Refused.is) c.number.ensures

@@ -1,0 +1,6 @@
+-- `review::bowlinette_read` meets its contract.
+use Rattle.bowlinette.proofs.IntoLaws.{kept_told}
+use Rattle.bowlinette.proofs.review.bowlinette_read.Goals as goal
+
+pub returns : goal.returns
+returns c = kept_told _ _ _ _ _ _ c.deliver_length.ensures c.read.ensures

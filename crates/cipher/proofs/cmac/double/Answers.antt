@@ -1,0 +1,27 @@
+-- `cmac::double` meets its contract. The invariant: the first k bytes are those of the double, the others zero.
+use Rattle.std.proofs.Common.{◌≡◌, refl, arith}
+use Rattle.lists.specs.Tabulation.{tab}
+use Rattle.lists.proofs.PartLaws.{fill_turn}
+use Rattle.cipher.proofs.CmacLaws.{rule, double_high, double_low}
+use Rattle.cipher.proofs.cmac.double.Goals as goal
+
+pub loop-k-init : goal.loop-k-init
+unfolding tab
+loop-k-init c = (omega arith, refl)
+
+pub loop-k-preserved : goal.loop-k-preserved
+loop-k-preserved c =
+    let h = c.before.before in
+    (omega arith, fill_turn (rule h.args.b) 16 h.loop-k.d h.loop-k.k c.shifted.result h.loop-k.invariant.1 c.shifted.ensures (omega arith))
+
+pub returns-then-b-ge128 : goal.returns-then-b-ge128
+returns-then-b-ge128 c =
+    let h = c.before.before.before in
+    let e : h.loop-k.k ≡ 15 = omega arith in
+    double_high h.args.b h.loop-k.d (rw e at h.loop-k.invariant.1) c.shifted-last.result c.shifted-last.ensures (omega arith)
+
+pub returns-else-b-ge128 : goal.returns-else-b-ge128
+returns-else-b-ge128 c =
+    let h = c.before.before.before in
+    let e : h.loop-k.k ≡ 15 = omega arith in
+    double_low h.args.b h.loop-k.d (rw e at h.loop-k.invariant.1) c.shifted-last.result c.shifted-last.ensures (omega arith)

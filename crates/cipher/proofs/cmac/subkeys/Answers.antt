@@ -1,0 +1,16 @@
+-- `cmac::subkeys` meets its contract.
+use Rattle.std.proofs.Common.{sym, ap, ◌∙◌}
+use Rattle.cipher.specs.KeySize.{rounds}
+use Rattle.words.specs.Word.{bytes}
+use Rattle.cipher.specs.Lea as L
+use Rattle.cipher.specs.Cmac as C
+use Rattle.cipher.proofs.LeaLaws.{words_zeros}
+use Rattle.cipher.proofs.cmac.subkeys.Goals as goal
+
+pub returns : goal.returns
+unfolding L.first_rounds C.subkey1 C.subkey2
+returns c =
+    let a = c.args in
+    let lea = c.encipher.ensures ∙ ap (L.forward a.rows (rounds a.size)) (sym words_zeros) in
+    let k = c.double-k1.ensures ∙ ap C.double (c.bytes-l.ensures ∙ ap bytes lea) in
+    (k, c.double-k2.ensures ∙ ap C.double k)

@@ -1,0 +1,33 @@
+-- `rows::decipher` meets its contract. The invariant: what is left to undo, undone, is the whole undone.
+use Rattle.std.proofs.Common.{◌≡◌, ℕ, ◌+◌, ◌-◌, ◌*◌, ◌/◌, sym, refl, ap, ◌∙◌, arith}
+use Rattle.cipher.specs.Lea as L
+use Rattle.cipher.proofs.KeySizeLaws.{rounds_le, rounds_fours}
+use Rattle.cipher.proofs.LeaLaws.{backward_four}
+use Rattle.cipher.proofs.rows.decipher.Goals as goal
+
+pub loop-q-init : goal.loop-q-init
+loop-q-init c = (omega arith, omega (arith, rounds_le c.args.size), refl)
+
+pub loop-q-preserved : goal.loop-q-preserved
+loop-q-preserved c =
+    let h = c.before.before.before.before.before.before in
+    let rows = h.args.rows in
+    let q = h.loop-q.q - 1 in
+    let e : q + 1 ≡ h.loop-q.q = omega arith in (
+      omega arith,
+      h.loop-q.invariant.1,
+      ap (L.backward rows (4 * q)) c.four_unrounds-y.ensures
+          ∙ sym (backward_four rows q _)
+          ∙ ap (λ (n : ℕ). L.backward rows (4 * n) h.loop-q.x) e
+          ∙ h.loop-q.invariant.2,
+    )
+
+pub returns : goal.returns
+unfolding L.backward
+returns c =
+    let h = c.before in
+    let a = h.args in
+    let e : 0 ≡ 4 * h.loop-q.q = omega arith in
+    ap (λ (n : ℕ). L.backward a.t1 n h.loop-q.x) e
+    ∙ h.loop-q.invariant.2
+    ∙ ap (λ (n : ℕ). L.backward a.t1 n a.block) (ap (λ (n : ℕ). 4 * (n / 4)) h.rounds-q.ensures ∙ rounds_fours a.size)

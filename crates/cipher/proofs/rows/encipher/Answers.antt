@@ -1,0 +1,33 @@
+-- `rows::encipher` meets its contract. The invariant: 4 q rounds are done.
+use Rattle.std.proofs.Common.{◌≡◌, ℕ, ◌+◌, ◌*◌, ◌/◌, List, [], get_or, sym, refl, ap, ◌∙◌, arith}
+use Rattle.cipher.specs.Lea as L
+use Rattle.cipher.proofs.KeySizeLaws.{rounds_le, rounds_fours}
+use Rattle.cipher.proofs.LeaLaws.{forward_four}
+use Rattle.cipher.proofs.rows.encipher.Goals as goal
+
+pub loop-q-init : goal.loop-q-init
+unfolding L.forward
+loop-q-init c = (omega arith, omega (arith, rounds_le c.args.size), refl)
+
+pub loop-q-preserved : goal.loop-q-preserved
+loop-q-preserved c =
+    let h = c.before.before.before.before.before.before in
+    let rows = h.args.rows in
+    let q = h.loop-q.q in (
+      omega arith,
+      h.loop-q.invariant.1,
+      c.four_rounds-y.ensures
+          ∙ ap
+          (λ (y : List ℕ).
+          L.round (get_or rows (4 * q + 3) []) (L.round (get_or rows (4 * q + 2) []) (L.round (get_or rows (4 * q + 1) []) (L.round (get_or rows (4 * q) []) y))))
+          h.loop-q.invariant.2
+          ∙ sym (forward_four rows q _),
+    )
+
+pub returns : goal.returns
+returns c =
+    let h = c.before in
+    let a = h.args in
+    let e : 4 * h.loop-q.q ≡ 4 * (h.rounds-q-end.result / 4) = omega arith in
+    h.loop-q.invariant.2
+    ∙ ap (λ (n : ℕ). L.forward a.t1 n a.block) (e ∙ ap (λ (n : ℕ). 4 * (n / 4)) h.rounds-q-end.ensures ∙ rounds_fours a.size)

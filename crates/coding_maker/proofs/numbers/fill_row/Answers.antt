@@ -1,0 +1,47 @@
+-- `numbers::fill_row` meets its contract. The invariant: b remainders are written, and the rest is as it was.
+use mathlib.Core.Path.{◌≡◌, refl, ap, ◌∙◌}
+use mathlib.Core.List.{◌++◌}
+use Prim.Native.Nat.{ℕ, ◌+◌, ◌-◌, ◌%◌}
+use native.Mathlib.Nat.{mod-le}
+use native.Mathlib.Omega.{arith}
+use lib.ListN.{drop, length-set}
+use Rattle.lists.specs.Tabulation.{tab}
+use Rattle.lists.proofs.PartLaws.{tab_turn}
+use Rattle.coding_maker.proofs.NumberLaws.{filled_at}
+use Rattle.coding_maker.proofs.numbers.fill_row.Goals as goal
+
+pub overflow_sub-limit : goal.overflow_sub-limit
+overflow_sub-limit c = mod-le 256 _
+
+pub loop-b-init : goal.loop-b-init
+unfolding tab
+loop-b-init c = (omega arith, refl, refl)
+
+pub remainder-r-requires : goal.remainder-r-requires
+remainder-r-requires c =
+    let l = c.before.before in
+    let e = l.before.before in (
+      e.requires.0,
+      omega arith,
+      l.loop-b.invariant.1 ∙ e.requires.1,
+      λ i h. filled_at (λ n. n % (e.args.k + 1)) e.args.row.now l.loop-b.row l.loop-b.b i l.loop-b.invariant.2 h,
+    )
+
+pub loop-b-preserved : goal.loop-b-preserved
+loop-b-preserved c =
+    let l = c.before.before.before in
+    let e = l.before.before in (
+      omega arith,
+      simp length-set l.loop-b.invariant.1,
+      tab_turn (λ n. n % (e.args.k + 1)) _ _ _ _ l.loop-b.invariant.2 c.remainder-r.ensures (omega (arith, e.requires.1)),
+    )
+
+pub shape_of-row : goal.shape_of-row
+shape_of-row c = c.loop-b.invariant.1
+
+pub returns : goal.returns
+returns c =
+    let l = c.before in
+    let e = l.before.before in
+    let d : l.loop-b.b ≡ 256 - 256 % (e.args.k + 1) = omega arith in
+    l.loop-b.invariant.2 ∙ ap (λ (n : ℕ). tab n (λ i. i % (e.args.k + 1)) ++ drop n e.args.row.now) d

@@ -1,0 +1,15 @@
+-- `numbers::remainder` meets its contract.
+use mathlib.Core.Path.{◌∙◌}
+use Prim.Native.Nat.{◌+◌, ◌-◌}
+use native.Mathlib.Omega.{arith}
+use Rattle.coding_maker.proofs.NumberLaws.{remainder_first, remainder_again}
+use Rattle.coding_maker.proofs.numbers.remainder.Goals as goal
+
+pub returns-then-b-k : goal.returns-then-b-k
+returns-then-b-k c = let a = c.args in remainder_first a.k a.b (omega (arith, c.if-b-k.true))
+
+pub returns : goal.returns
+returns c =
+    let e = c.before in
+    let a = e.args in
+    e.requires.3 (a.b - (a.k + 1)) (omega (arith, e.if-b-k.false)) ∙ remainder_again a.k a.b e.if-b-k.false

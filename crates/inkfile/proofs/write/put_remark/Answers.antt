@@ -1,0 +1,29 @@
+-- `write::put_remark` meets its contract.
+use mathlib.Core.Path.{sym, ap, ◌∙◌}
+use native.Mathlib.Omega.{arith}
+use lib.ListN.{length}
+use Rattle.lists.specs.Overlay.{overlaid}
+use Rattle.lists.proofs.OverlayLaws.{nothing_overlaid}
+use Rattle.inkfile.proofs.PutLaws.{bytes_none, bytes_given, size_none, size_given}
+use Rattle.inkfile.proofs.write.put_remark.Goals as goal
+
+pub returns-then-kinds-i : goal.returns-then-kinds-i
+returns-then-kinds-i c =
+    let a = c.args in
+    let z = size_none a.kinds.now a.i (length a.body.now) c.if-kinds-i.true in
+    (omega arith, nothing_overlaid a.out-1.now a.at _ (bytes_none a.kinds.now a.i a.body.now c.if-kinds-i.true))
+
+pub put_record-requires : goal.put_record-requires
+put_record-requires c =
+    let e = c.before.before in
+    let s = e.before.before.before.before in
+    omega (arith, size_given s.args.kinds.now s.args.i (length s.args.body.now) e.if-kinds-i.false, s.requires)
+
+pub returns : goal.returns
+returns c =
+    let r = c.before.before in
+    let e = r.before.before.before in
+    let a = e.args in
+    let v = r.put_record.ensures in
+    let z = size_given a.kinds.now a.i (length a.body.now) e.if-kinds-i.false in
+    (omega (arith, v.0, z), v.1 ∙ ap (overlaid a.out-1.now a.at) (sym (bytes_given _ _ _ e.if-kinds-i.false)))

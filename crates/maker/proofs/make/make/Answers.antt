@@ -1,0 +1,58 @@
+-- `make::make` meets its contract.
+use mathlib.Core.Path.{sym, ap, ◌∙◌}
+use Prim.Native.Nat.{ℕ}
+use native.Mathlib.Omega.{arith}
+use Rattle.lists.proofs.TwoParts.{room_length}
+use Rattle.cipher.specs.KeySize.{chain_length}
+use Rattle.cipher.proofs.KeySizeLaws.{rounds_le}
+use Rattle.maker.specs.Plan.{planned}
+use Rattle.maker.specs.MadeChain.{chain_draws}
+use Rattle.maker.proofs.MakeAnswers.{made_room, made_ran_out, made_front}
+use Rattle.maker.proofs.make.make.Goals as goal
+
+pub returns-then-out-end : goal.returns-then-out-end
+returns-then-out-end c =
+    let l = c.before in
+    let a = l.args in
+    sym (made_room (planned a.rule a.set.now) a.size a.random.now a.out-1.now (omega (arith, l.chain_len-end.ensures, c.if-out-end.true)))
+
+pub chain_draws-requires : goal.chain_draws-requires
+chain_draws-requires c =
+    let a = c.args in
+    (c.number_table-table.ensures, omega (arith, c.rounds.ensures, rounds_le a.size))
+
+pub returns-then-random-chain_draws : goal.returns-then-random-chain_draws
+returns-then-random-chain_draws c =
+    let d = c.before in
+    let q = d.before in
+    let e = q.before.before.before in
+    let l = e.before in
+    let a = l.args in
+    let p = planned a.rule a.set.now in
+    let n = d.chain_draws.ensures ∙ ap (λ (k : ℕ). chain_draws p k a.random.now) q.rounds.ensures in
+    sym (made_ran_out p a.size a.random.now a.out-1.now (omega (arith, l.chain_len-end.ensures, e.if-out-end.false)) (omega (arith, n, c.if-random-chain_draws.true)))
+
+pub draw_chain-drawn-requires : goal.draw_chain-drawn-requires
+draw_chain-drawn-requires c =
+    let t = c.before.before.before.before.before.before in
+    let e = t.before in
+    let l = e.before in
+    let s = l.before.before.before.before in (
+      t.number_table-table.ensures,
+      s.requires,
+      room_length l.chain_len-end.result (chain_length s.args.size) s.args.out.now l.chain_len-end.ensures (omega (arith, l.chain_len-end.ensures, e.if-out-end.false)),
+    )
+
+pub returns : goal.returns
+returns c =
+    let m = c.before.before in
+    let g = m.before.before.before in
+    let d = g.before in
+    let q = d.before in
+    let e = q.before.before.before in
+    let l = e.before in
+    let a = l.args in
+    let p = planned a.rule a.set.now in
+    let n = d.chain_draws.ensures ∙ ap (λ (k : ℕ). chain_draws p k a.random.now) q.rounds.ensures in
+    made_front p a.size a.random.now a.out-1.now (omega (arith, l.chain_len-end.ensures, e.if-out-end.false)) (omega (arith, n, g.if-random-chain_draws.false))
+    l.chain_len-end.result m.draw_chain-drawn.result _ l.chain_len-end.ensures m.draw_chain-drawn.ensures.0 m.draw_chain-drawn.ensures.1

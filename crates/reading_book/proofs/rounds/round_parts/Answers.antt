@@ -1,0 +1,79 @@
+-- `rounds::round_parts` meets its contract. The invariant: l rounds are written, and the rest is as it was.
+use mathlib.Core.Path.{refl}
+use Prim.Native.Nat.{◌+◌, ◌-◌, zero-le}
+use native.Mathlib.Omega.{arith}
+use borrow.Rule.Slice.PartMut.{same_len_mid}
+use Rattle.lists.specs.Tabulation.{chunks}
+use Rattle.lists.proofs.PartLaws.{length_part}
+use Rattle.cipher.specs.KeySize.{rounds}
+use Rattle.table_maker.proofs.RowLaws.{parts_next, parts_done}
+use Rattle.reading.specs.Book.{reading_book_round}
+use Rattle.cipher.proofs.KeySizeLaws.{rounds_le}
+use Rattle.reading_book.proofs.ReadingWhole.{round_back_is, round_back_length}
+use Rattle.reading_book.proofs.rounds.round_parts.Goals as goal
+
+pub loop-l-init : goal.loop-l-init
+unfolding chunks
+loop-l-init c = (zero-le, refl, refl, refl)
+
+pub overflow_add-to : goal.overflow_add-to
+overflow_add-to c =
+    let s = c.before in
+    let b = rounds_le s.args.size in
+    omega (arith, s.loop-l.invariant.0, s.loop-l.invariant.1)
+
+pub bounds-rows-r : goal.bounds-rows-r
+bounds-rows-r c =
+    let s = c.before in
+    let b = rounds_le s.args.size in
+    omega (arith, s.rounds-r.ensures)
+
+pub overflow_sub-r : goal.overflow_sub-r
+overflow_sub-r c = omega arith
+
+pub overflow_sub-r-in-loop-l : goal.overflow_sub-r-in-loop-l
+overflow_sub-r-in-loop-l c = omega arith
+
+pub slice_bounds-round_at-count : goal.slice_bounds-round_at-count
+slice_bounds-round_at-count c = omega arith
+
+pub slice_bounds-round_at-end : goal.slice_bounds-round_at-end
+slice_bounds-round_at-end c =
+    let s = c.before.before in
+    omega (arith, s.loop-l.invariant.1, s.loop-l.invariant.2, s.rounds-r.ensures, s.requires.1)
+
+pub round_at-requires : goal.round_at-requires
+round_at-requires c =
+    let s = c.before.before.before in
+    let e = s.before.before.before.before in
+    let b = rounds_le e.args.size in
+    let h = s.rounds-r.ensures in
+    (e.requires.0, omega arith, length_part _ s.loop-l.at 18432 (omega arith))
+
+pub loop-l-smaller : goal.loop-l-smaller
+loop-l-smaller c =
+    let s = c.before.before.before.before.before.before in
+    let h = s.rounds-r.ensures in
+    omega arith
+
+pub loop-l-preserved : goal.loop-l-preserved
+loop-l-preserved c =
+    let call = c.before.before in
+    let s = call.before.before.before.before in
+    let a = s.args in
+    let h = s.rounds-r.ensures in
+    let at = s.loop-l.at in
+    parts_next (reading_book_round (rounds a.size) a.t3 a.chain.now) 18432 (rounds a.size) a.out-1.now
+    (round_back_length (rounds a.size) a.t3 a.chain.now) s.loop-l.out _ at s.loop-l.l s.loop-l.invariant (omega arith)
+    (round_back_is (rounds a.size) _ _ a.t3 a.chain.now _ h call.round_at.ensures)
+    (same_len_mid at (at + 18432 - at) s.loop-l.out call.round_at.new.1.1.1.1.0 call.round_at.auto.1.1.1.1.0)
+
+pub returns : goal.returns
+returns c =
+    let s = c.before in
+    let e = s.before.before.before.before in
+    let h = s.rounds-r.ensures in
+    parts_done _ 18432 (rounds e.args.size) _ s.loop-l.out s.loop-l.at s.loop-l.l s.loop-l.invariant (omega arith) e.requires.1
+
+pub shape_of-out : goal.shape_of-out
+shape_of-out c = c.loop-l.invariant.2

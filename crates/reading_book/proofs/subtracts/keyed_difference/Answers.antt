@@ -1,0 +1,15 @@
+-- `subtracts::keyed_difference` meets its contract.
+use mathlib.Core.Path.{ap}
+use Prim.Native.Nat.{◌%◌}
+use native.Mathlib.Omega.{arith}
+use lib.Bits.{bit_xor, xor_lt}
+use lib.Dec.{lit<}
+use Rattle.reading_book.proofs.subtracts.keyed_difference.Goals as goal
+
+pub returns : goal.returns
+returns c =
+    let e = c.before in
+    let s = e.args.s % 16 in
+    let l = e.args.l in
+    let a = xor_lt 4 15 l (lit< tt) e.requires in
+    (ap (bit_xor s) c.wide.ensures.0, xor_lt 4 s c.wide.result (omega arith) (omega (arith, c.wide.ensures.0, a)))

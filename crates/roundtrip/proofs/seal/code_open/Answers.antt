@@ -1,0 +1,28 @@
+-- `seal::code_open` meets its contract.
+use mathlib.Core.Path.{sym, ap, ◌∙◌}
+use mathlib.Core.List.{List}
+use Prim.Native.Nat.{ℕ}
+use native.Mathlib.Omega.{arith}
+use Rattle.roundtrip.specs.Steps.{sealed_opened, coded_opened}
+use Rattle.roundtrip.proofs.StepLaws.{written_refused, written_done, coding_room}
+use Rattle.roundtrip.proofs.seal.code_open.Goals as goal
+
+pub slice_bounds-seal_open-end : goal.slice_bounds-seal_open-end
+slice_bounds-seal_open-end c = omega (arith, coding_room _ _ _ _ _ c.code_for_sealing.ensures _ c.in-Bytes.is)
+
+pub returns-in-Refused : goal.returns-in-Refused
+unfolding coded_opened
+returns-in-Refused c =
+    let a = c.args in
+    written_refused _ _ _ c.code_for_sealing.ensures (a.sealed-1.now, a.out-1.now)
+    (λ f. sealed_opened a.schedule a.key.now a.set.now a.book.now a.iv.now f a.sealed-1.now a.out-1.now) _ c.in-Refused.is
+
+pub returns-in-Bytes : goal.returns-in-Bytes
+unfolding coded_opened
+returns-in-Bytes c =
+    let n = c.before.before.before.before.before.before.before.before.before.before in
+    let s = n.before.before.before.before in
+    let a = s.args in
+    ap (λ (y : (ℕ × ℕ) × (List ℕ × List ℕ)). (y.0, (s.code_for_sealing.new.1.1.0, y.1))) c.seal_open.ensures
+    ∙ sym (written_done _ _ _ s.code_for_sealing.ensures (a.sealed-1.now, a.out-1.now)
+    (λ f. sealed_opened a.schedule a.key.now a.set.now a.book.now a.iv.now f a.sealed-1.now a.out-1.now) _ n.in-Bytes.is)

@@ -1,0 +1,24 @@
+-- `block::block_words` meets its contract. The invariant: k words are read.
+use Rattle.std.proofs.Common.{◌≡◌, ℕ, ◌-◌, ◌*◌, List, ◌++◌, replicate, refl, ap, ◌∙◌, arith}
+use Rattle.lists.specs.Tabulation.{tab}
+use Rattle.lists.proofs.PartLaws.{fill_turn}
+use Rattle.sha256.specs.Sha256.{big_word_at, block}
+use Rattle.sha256.proofs.block.block_words.Goals as goal
+
+pub loop-k-init : goal.loop-k-init
+unfolding tab
+loop-k-init c = (omega arith, refl)
+
+pub loop-k-preserved : goal.loop-k-preserved
+loop-k-preserved c =
+    let h = c.before.before.before in
+    (omega arith, fill_turn (λ j. big_word_at h.padded-p.result (4 * j)) 64 _ _ _ h.loop-k.invariant.1 c.big_word_at.ensures (omega arith))
+
+pub returns : goal.returns
+unfolding block
+returns c =
+    let h = c.before in
+    let e : h.loop-k.k ≡ 16 = omega arith in
+    h.loop-k.invariant.1
+    ∙ ap (λ (k : ℕ). tab k (λ j. big_word_at h.padded-p.result (4 * j)) ++ replicate (64 - k) 0) e
+    ∙ ap (λ (p : List ℕ). block p 0 ++ replicate 48 0) h.padded-p.ensures

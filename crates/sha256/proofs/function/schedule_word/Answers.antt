@@ -1,0 +1,14 @@
+-- `function::schedule_word` meets its contract.
+use Rattle.std.proofs.Common.{ℕ, ap, ◌∙◌, ap₂}
+use Rattle.words.specs.Word.{add}
+use Rattle.sha256.specs.Sha256.{schedule_word}
+use Rattle.sha256.proofs.function.schedule_word.Goals as goal
+
+pub returns : goal.returns
+unfolding schedule_word add
+returns c =
+    let s = c.before.before.before in
+    let x = s.args in
+    let two = s.wrapping_add_u32-s.ensures ∙ ap (λ (n : ℕ). add n x.b) s.shifted.ensures in
+    let three = c.wrapping_add_u32.ensures ∙ ap₂ add two c.shifted-2.ensures in
+    c.wrapping_add_u32-2.ensures ∙ ap (λ (n : ℕ). add n x.d) three

@@ -1,0 +1,17 @@
+-- `function::temp1` meets its contract.
+use Rattle.words.specs.Word.{add}
+use Rattle.sha256.specs.Sha256.{temp1}
+use Rattle.sha256.proofs.function.temp1.Goals as goal
+
+pub returns : goal.returns
+unfolding temp1 add
+returns c =
+    let s = c.before.before.before.before in
+    rw (
+      c.wrapping_add_u32-2.ensures,
+      c.wrapping_add_u32.ensures,
+      c.wrapping_add_u32-t.ensures,
+      c.ch.ensures,
+      s.wrapping_add_u32-s.ensures,
+      s.turned.ensures,
+    )

@@ -1,0 +1,20 @@
+-- `adds::keyed` meets its contract. The invariant: q values are written.
+use mathlib.Core.Path.{refl}
+use native.Mathlib.Omega.{arith}
+use Rattle.lists.specs.Tabulation.{tab}
+use Rattle.table_maker.proofs.RowLaws.{fill_next, fill_done}
+use Rattle.table_maker.specs.Made.{keyed_by}
+use Rattle.table_maker.proofs.adds.keyed.Goals as goal
+
+pub loop-q-init : goal.loop-q-init
+unfolding tab
+loop-q-init c = (omega arith, refl)
+
+pub loop-q-preserved : goal.loop-q-preserved
+loop-q-preserved c =
+    let s = c.before.before in
+    let a = s.args in
+    fill_next (keyed_by a.s.now a.at a.k) 16 s.loop-q.b s.loop-q.q _ s.loop-q.invariant refl (omega arith)
+
+pub returns : goal.returns
+returns c = fill_done _ 16 _ c.loop-q.q c.loop-q.invariant (omega arith)

@@ -1,0 +1,20 @@
+-- `turns::lower_parts` meets its contract. The invariant: q parts are written.
+use mathlib.Core.Path.{refl}
+use native.Mathlib.Omega.{arith}
+use Rattle.lists.specs.Tabulation.{tab}
+use Rattle.table_maker.proofs.RowLaws.{fill_next, fill_done}
+use Rattle.table_maker.specs.Made.{lower_parts}
+use Rattle.table_maker.proofs.turns.lower_parts.Goals as goal
+
+pub loop-q-init : goal.loop-q-init
+unfolding tab
+loop-q-init c = (omega arith, refl)
+
+pub loop-q-preserved : goal.loop-q-preserved
+loop-q-preserved c =
+    let s = c.before.before.before in
+    let a = s.args in
+    fill_next (lower_parts a.s.now a.at a.i) 16 s.loop-q.b s.loop-q.q _ s.loop-q.invariant c.lower_part.ensures (omega arith)
+
+pub returns : goal.returns
+returns c = fill_done _ 16 _ c.loop-q.q c.loop-q.invariant (omega arith)

@@ -1,0 +1,27 @@
+-- `turns::upper_parts` meets its contract. The invariant: q parts are written.
+use mathlib.Core.Path.{refl}
+use Prim.Native.Nat.{◌+◌}
+use native.Mathlib.Omega.{arith}
+use Rattle.lists.specs.Tabulation.{tab}
+use Rattle.table_maker.proofs.RowLaws.{fill_next, fill_done}
+use Rattle.table_maker.specs.Made.{upper_parts}
+use Rattle.table_maker.proofs.turns.upper_parts.Goals as goal
+
+pub loop-q-init : goal.loop-q-init
+unfolding tab
+loop-q-init c = (omega arith, refl)
+
+pub upper_part-requires : goal.upper_part-requires
+upper_part-requires c =
+    let s = c.before.before in
+    let e = s.before.before in
+    e.requires.1 (e.args.at + s.loop-q.q)
+
+pub loop-q-preserved : goal.loop-q-preserved
+loop-q-preserved c =
+    let s = c.before.before.before in
+    let a = s.args in
+    fill_next (upper_parts a.s.now a.at a.i) 16 s.loop-q.a s.loop-q.q _ s.loop-q.invariant c.upper_part.ensures (omega arith)
+
+pub returns : goal.returns
+returns c = fill_done _ 16 _ c.loop-q.q c.loop-q.invariant (omega arith)
