@@ -17,7 +17,7 @@ loop-k-preserved c =
     let h = c.before.before.before.before in
     let a = h.args in
     let p = same a.before.now a.from a.after.now a.to in
-    (omega arith, c.Still-kept.ensures ∙ ap (λ (b : Bool). b && p h.loop-k.k) h.loop-k.invariant.1 ∙ sym (every_more h.loop-k.k p))
+    (omega arith, c.still_kept.ensures ∙ ap (λ (b : Bool). b && p h.loop-k.k) h.loop-k.invariant.1 ∙ sym (every_more h.loop-k.k p))
 
 pub returns : goal.returns
 returns c =

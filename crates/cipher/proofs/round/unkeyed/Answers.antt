@@ -11,4 +11,4 @@ unfolding unkeyed xor
 returns c =
     let a = c.args in
     ap (λ (z : ℕ). bit_xor z a.l)
-    (sub_only _ _ _ (omega arith) (xor_lt 32 a.x a.k (omega arith) (omega arith)) c.wrapping_sub_u32.ensures)
+    (sub_only _ _ _ (omega arith) (xor_lt 32 a.x a.k (omega arith) (omega arith)) c.wrapping_sub_u32.ensures.value)

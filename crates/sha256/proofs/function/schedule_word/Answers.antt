@@ -9,6 +9,6 @@ unfolding schedule_word add
 returns c =
     let s = c.before.before.before in
     let x = s.args in
-    let two = s.wrapping_add_u32-s.ensures ∙ ap (λ (n : ℕ). add n x.b) s.shifted.ensures in
-    let three = c.wrapping_add_u32.ensures ∙ ap₂ add two c.shifted-2.ensures in
-    c.wrapping_add_u32-2.ensures ∙ ap (λ (n : ℕ). add n x.d) three
+    let two = s.wrapping_add_u32-s.ensures.value ∙ ap (λ (n : ℕ). add n x.b) s.shifted.ensures in
+    let three = c.wrapping_add_u32.ensures.value ∙ ap₂ add two c.shifted-2.ensures in
+    c.wrapping_add_u32-2.ensures.value ∙ ap (λ (n : ℕ). add n x.d) three

@@ -8,10 +8,10 @@ unfolding temp1 add
 returns c =
     let s = c.before.before.before.before in
     rw (
-      c.wrapping_add_u32-2.ensures,
-      c.wrapping_add_u32.ensures,
-      c.wrapping_add_u32-t.ensures,
+      c.wrapping_add_u32-2.ensures.value,
+      c.wrapping_add_u32.ensures.value,
+      c.wrapping_add_u32-t.ensures.value,
       c.ch.ensures,
-      s.wrapping_add_u32-s.ensures,
+      s.wrapping_add_u32-s.ensures.value,
       s.turned.ensures,
     )

@@ -5,4 +5,4 @@ use Rattle.sha256.proofs.function.temp2.Goals as goal
 
 pub returns : goal.returns
 unfolding temp2 add
-returns c = rw (c.wrapping_add_u32.ensures, c.maj.ensures, c.turned.ensures)
+returns c = rw (c.wrapping_add_u32.ensures.value, c.maj.ensures, c.turned.ensures)

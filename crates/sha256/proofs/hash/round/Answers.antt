@@ -11,11 +11,11 @@ returns c =
     let u = c.temp2-u.ensures in
     let s = c.args.s in
     (λ i.
-    c.wrapping_add_u32.ensures i
+    c.wrapping_add_u32.ensures.value i
     ∷ get_or s 0 0
     ∷ get_or s 1 0
     ∷ get_or s 2 0
-    ∷ c.wrapping_add_u32-2.ensures i
+    ∷ c.wrapping_add_u32-2.ensures.value i
     ∷ get_or s 4 0
     ∷ get_or s 5 0
     ∷ get_or s 6 0

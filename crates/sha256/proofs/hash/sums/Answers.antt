@@ -15,12 +15,12 @@ returns c =
     let c3 = c4.before in
     let c2 = c3.before in
     λ i.
-    c2.wrapping_add_u32.ensures i
-    ∷ c2.wrapping_add_u32-2.ensures i
-    ∷ c3.wrapping_add_u32-3.ensures i
-    ∷ c4.wrapping_add_u32-4.ensures i
-    ∷ c5.wrapping_add_u32-5.ensures i
-    ∷ c6.wrapping_add_u32-6.ensures i
-    ∷ c7.wrapping_add_u32-7.ensures i
-    ∷ c.wrapping_add_u32-8.ensures i
+    c2.wrapping_add_u32.ensures.value i
+    ∷ c2.wrapping_add_u32-2.ensures.value i
+    ∷ c3.wrapping_add_u32-3.ensures.value i
+    ∷ c4.wrapping_add_u32-4.ensures.value i
+    ∷ c5.wrapping_add_u32-5.ensures.value i
+    ∷ c6.wrapping_add_u32-6.ensures.value i
+    ∷ c7.wrapping_add_u32-7.ensures.value i
+    ∷ c.wrapping_add_u32-8.ensures.value i
     ∷ []
