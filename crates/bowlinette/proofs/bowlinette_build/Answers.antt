@@ -4,4 +4,4 @@ use Prim.Native.Nat.{ℕ}
 use Rattle.bowlinette.proofs.bowlinette_build.Goals as goal
 
 pub returns : goal.returns
-returns c = ap (λ (n : ℕ). (n, c.build-outcome.new.1.1.1.0)) c.number.ensures ∙ c.build-outcome.ensures
+returns c = ap (λ (n : ℕ). (n, c.build-outcome.new.out)) c.number.ensures ∙ c.build-outcome.ensures

@@ -9,5 +9,4 @@ returns-in-Coded c = kept_taken _ _ _ _ c.code_for_tag-code.ensures _ (ap tag_co
 
 pub returns-in-Refused : goal.returns-in-Refused
 returns-in-Refused c =
-    let why = c.before.before in
-    kept_refused _ _ _ _ why.code_for_tag-code.ensures _ why.in-Refused.why _ (ap tag_code_told why.in-Refused.is) c.number.ensures
+    kept_refused _ _ _ _ c.code_for_tag-code.ensures _ c.in-Refused.why _ (ap tag_code_told c.in-Refused.is) c.number.ensures

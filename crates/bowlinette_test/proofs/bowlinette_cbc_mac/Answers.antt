@@ -23,45 +23,37 @@ use Rattle.bowlinette_test.proofs.bowlinette_cbc_mac.Goals as goal
 abbrev mac_of : List ℕ → List ℕ → Schedule → KeySize → ℕ × List ℕ
 mac_of key text k z = (0, cbc_mac (L.encipher k z key) zeros (blocks text))
 
--- the parameters, seen from the size that was found for the key
-abbrev given : goal.In-Found-2 → goal.Start
-given c = c.before.before.before.before.before.before.before.before.before
-
-known : (c : goal.In-Found-2) → Named (given c).args.schedule (given c).args.key.now c.in-Numbered.named c.in-Found.size
-known c =
-    let n = c.before.before.before.before in
-    (sym n.of_number.ensures ∙ n.in-Numbered.is, sym c.of_key_len.ensures ∙ c.in-Found.is)
-
 pub returns-in_default : goal.returns-in_default
 returns-in_default c =
-    let n = c.before.before.before in
-    let a = n.args in
-    let e = schedule_refused a.schedule a.key.now (λ k z. []) (λ n. (n, zeros)) (mac_of a.key.now a.text.now)
-    (sym n.of_number.ensures ∙ c.in_default.is) in
+    let a = c.args in
+    let e = schedule_refused a.schedule a.key.now (λ k z. []) (λ c. (c, zeros)) (mac_of a.key.now a.text.now)
+    (sym c.of_number.ensures ∙ c.in_default.is) in
     (λ i. (c.number.ensures i, a.out.now)) ∙ sym (ap (λ (t : ℕ × List ℕ). into t a.out.now) e)
 
 pub returns-in_default-of_key_len : goal.returns-in_default-of_key_len
 returns-in_default-of_key_len c =
-    let k = c.before.before.before in
-    let n = k.before.before in
-    let a = n.args in
-    let e = key_refused a.schedule a.key.now (λ k z. []) (λ n. (n, zeros)) (mac_of a.key.now a.text.now) _
-    (sym n.of_number.ensures ∙ n.in-Numbered.is) (sym k.of_key_len.ensures ∙ c.in_default-of_key_len.is) in
+    let a = c.args in
+    let e = key_refused a.schedule a.key.now (λ c z. []) (λ c. (c, zeros)) (mac_of a.key.now a.text.now) _
+    (sym c.of_number.ensures ∙ c.in-Numbered.is) (sym c.of_key_len.ensures ∙ c.in_default-of_key_len.is) in
     (λ i. (c.number-in_default-of_key_len.ensures i, a.out.now)) ∙ sym (ap (λ (t : ℕ × List ℕ). into t a.out.now) e)
 
 pub key_rows-rows-requires : goal.key_rows-rows-requires
-key_rows-rows-requires c = found_length key_length _ _ (known c.before).1
+key_rows-rows-requires c =
+    let known : Named c.args.schedule c.args.key.now c.in-Numbered.named c.in-Found.size =
+    (sym c.of_number.ensures ∙ c.in-Numbered.is, sym c.of_key_len.ensures ∙ c.in-Found.is) in
+    found_length key_length _ _ known.1
 
 pub returns : goal.returns
 unfolding blocks first
 returns c =
-    let s = c.before.before.before.before in
-    let z = s.in-Found.size in
-    let a = (given s).args in
+    let known : Named c.args.schedule c.args.key.now c.in-Numbered.named c.in-Found.size =
+    (sym c.of_number.ensures ∙ c.in-Numbered.is, sym c.of_key_len.ensures ∙ c.in-Found.is) in
+    let z = c.in-Found.size in
+    let a = c.args in
     let bs = blocks a.text.now in
     let value = c.bytes-b.ensures
     ∙ ap bytes c.cbc_mac-x.ensures
     ∙ bytes_words (mac_block _ (rounds z) zeros bs block_zeros)
     ∙ ap (λ (rows : List (List ℕ)). cbc_mac (L.first_rounds rows (rounds z)) zeros bs) c.key_rows-rows.ensures in
-    let e = key_taken a.schedule a.key.now (λ k z. []) (λ n. (n, zeros)) (mac_of a.key.now a.text.now) _ z (known s) in
+    let e = key_taken a.schedule a.key.now (λ k z. []) (λ n. (n, zeros)) (mac_of a.key.now a.text.now) _ z known in
     (λ i. (0, value i)) ∙ sym (ap (λ (t : ℕ × List ℕ). into t a.out.now) e)

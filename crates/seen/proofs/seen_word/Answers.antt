@@ -14,13 +14,11 @@ loop-v-init c = (omega arith, refl)
 
 pub loop-v-preserved : goal.loop-v-preserved
 loop-v-preserved c =
-    let h = c.before.before.before in
-    let a = h.args in
-    (omega arith, ap₂ bit_or h.loop-v.invariant.1 c.bit_of-seen.ensures ∙ seen_more 16 (λ k. get_or a.s.now (a.at + k) 0) h.loop-v.v)
+    let a = c.args in
+    (omega arith, ap₂ bit_or c.loop-v.invariant.1 c.bit_of-seen.ensures ∙ seen_more 16 (λ k. get_or a.s.now (a.at + k) 0) c.loop-v.v)
 
 pub returns : goal.returns
 returns c =
-    let h = c.before in
-    let a = h.args in
-    let e : h.loop-v.v ≡ 16 = omega arith in
-    h.loop-v.invariant.1 ∙ ap (λ (n : ℕ). seen_word n 16 (λ k. get_or a.s.now (a.at + k) 0)) e
+    let a = c.args in
+    let e : c.loop-v.v ≡ 16 = omega arith in
+    c.loop-v.invariant.1 ∙ ap (λ (n : ℕ). seen_word n 16 (λ k. get_or a.s.now (a.at + k) 0)) e

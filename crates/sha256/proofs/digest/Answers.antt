@@ -11,12 +11,10 @@ loop-i-init c = (omega arith, refl)
 
 pub loop-i-preserved : goal.loop-i-preserved
 loop-i-preserved c =
-    let s = c.before in
-    (omega arith, fill_turn (byte_of s.hash-h.result) 32 s.loop-i.d s.loop-i.i _ s.loop-i.invariant.1 refl (omega arith))
+    (omega arith, fill_turn (byte_of c.hash-h.result) 32 c.loop-i.d c.loop-i.i _ c.loop-i.invariant.1 refl (omega arith))
 
 pub returns : goal.returns
 returns c =
-    let s = c.before in
-    fill_full (byte_of s.hash-h.result) 32 s.loop-i.d s.loop-i.i s.loop-i.invariant.1 (omega arith)
-    ∙ ap (λ (h : List ℕ). tab 32 (byte_of h)) s.hash-h.ensures
+    fill_full (byte_of c.hash-h.result) 32 c.loop-i.d c.loop-i.i c.loop-i.invariant.1 (omega arith)
+    ∙ ap (λ (h : List ℕ). tab 32 (byte_of h)) c.hash-h.ensures
     ∙ sha256_tab _

@@ -13,31 +13,24 @@ use Rattle.wf_lea.proofs.rows.Goals as goal
 pub loop-l-init : goal.loop-l-init
 unfolding first_rows rows
 loop-l-init c =
-    let s = c.before.before in
-    (omega arith, c.copied-m.type-inv.1.0.1, key_front s.args.key.now c.copied-m.result c.copied-m.ensures, refl)
+    (omega arith, c.copied-m.type_inv.1.0.1, key_front c.args.key.now c.copied-m.result c.copied-m.ensures, refl)
 
 pub slice_bounds-row-end : goal.slice_bounds-row-end
 slice_bounds-row-end c =
-    let h = c.before.before in
-    let s = h.before.before.before in
-    message_room s.args.key.now h.loop-l.m _ s.requires.0 h.loop-l.invariant.1 h.loop-l.invariant.2
+    message_room c.args.key.now c.loop-l.m _ c.requires.0 c.loop-l.invariant.1 c.loop-l.invariant.2
 
 pub row-requires : goal.row-requires
 row-requires c =
-    let h = c.before.before.before in
-    let s = h.before.before.before in
-    message_fits s.args.key.now h.loop-l.m _ s.requires.0 h.loop-l.invariant.1 h.loop-l.invariant.2
+    message_fits c.args.key.now c.loop-l.m _ c.requires.0 c.loop-l.invariant.1 c.loop-l.invariant.2
 
 pub loop-l-preserved : goal.loop-l-preserved
 loop-l-preserved c =
-    let h = c.before.before.before.before in
-    let s = h.before.before.before in
-    let key = s.args.key.now in
+    let key = c.args.key.now in
     let k = length key in
-    let m = h.loop-l.m in
-    let l = h.loop-l.l in
-    let v = h.loop-l.invariant in
-    let message = message_is key m _ s.requires.0 v.1 v.2 in (
+    let m = c.loop-l.m in
+    let l = c.loop-l.l in
+    let v = c.loop-l.invariant in
+    let message = message_is key m _ c.requires.0 v.1 v.2 in (
       omega arith,
       length-set m k _ ∙ v.1,
       take-set-le k m k _ (le_refl k) ∙ v.2,
@@ -46,7 +39,5 @@ loop-l-preserved c =
 
 pub returns : goal.returns
 returns c =
-    let h = c.before in
-    let s = h.before.before.before in
-    let e : h.loop-l.l ≡ s.args.n = omega arith in
-    h.loop-l.invariant.3 ∙ ap (rows s.args.key.now) e
+    let e : c.loop-l.l ≡ c.args.n = omega arith in
+    c.loop-l.invariant.3 ∙ ap (rows c.args.key.now) e

@@ -7,12 +7,10 @@ use Rattle.archive.proofs.blocks.before_words.Goals as goal
 
 pub returns-then-k-eq0 : goal.returns-then-k-eq0
 returns-then-k-eq0 c =
-    let s = c.before.before.before.before.before in
-    let a = s.args in
-    c.decoded_words.ensures ∙ ap (λ b. words4 (imaged a.table.now b)) (before_first a.iv.now a.sealed.now a.k s.requires.1 c.if-k-eq0.true)
+    let a = c.args in
+    c.decoded_words.ensures ∙ ap (λ b. words4 (imaged a.table.now b)) (before_first a.iv.now a.sealed.now a.k c.requires.1 c.if-k-eq0.true)
 
 pub returns : goal.returns
 returns c =
-    let s = c.before.before.before.before.before in
-    let a = s.args in
+    let a = c.args in
     c.decoded_words-2.ensures ∙ ap (λ b. words4 (imaged a.table.now b)) (before_next a.iv.now a.sealed.now a.k c.if-k-eq0.false)

@@ -9,7 +9,6 @@ use Rattle.archive.proofs.blocks.decoded_words.Goals as goal
 
 pub returns : goal.returns
 returns c =
-    let l = c.before.before.before in
-    let a = l.args in
+    let a = c.args in
     c.words.ensures
-    ∙ ap words4 (l.look_up.ensures ∙ ap (λ (n : ℕ). imaged a.table.now (take n (drop a.at a.text.now))) (add-sub_cancel_left a.at 16))
+    ∙ ap words4 (c.look_up.ensures ∙ ap (λ (n : ℕ). imaged a.table.now (take n (drop a.at a.text.now))) (add-sub_cancel_left a.at 16))

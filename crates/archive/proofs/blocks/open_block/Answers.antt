@@ -8,8 +8,6 @@ use Rattle.archive.proofs.blocks.open_block.Goals as goal
 
 pub returns : goal.returns
 returns c =
-    let w = c.before.before.before in
-    let s = w.before.before.before.before.before in
-    let a = s.args in
-    opened_words a.rows s.requires.0 _ (imaged a.table.now) (λ b. block_imaged a.table.now b s.requires.1.1) a.iv.now a.sealed.now a.k _ _
-    _ _ w.before_words-prior.ensures w.decoded_words-c.ensures c.decipher.ensures (c.bytes.ensures ∙ ap bytes c.xor.ensures)
+    let a = c.args in
+    opened_words a.rows c.requires.0 _ (imaged a.table.now) (λ b. block_imaged a.table.now b c.requires.1.1) a.iv.now a.sealed.now a.k _ _
+    _ _ c.before_words-prior.ensures c.decoded_words-c.ensures c.decipher.ensures (c.bytes.ensures ∙ ap bytes c.xor.ensures)

@@ -24,137 +24,122 @@ block_is s b = block_imaged s.args.table.now b s.requires.1.1
 sized : (s : goal.Start) (k : ℕ) → length (opened s k) ≡ 16
 sized s k = (block_opened s.args.rows (rounds s.args.size) (imaged s.args.table.now) (block_is s) s.args.iv.now s.args.sealed.now k).size
 
--- there is room for four blocks more
-room : (c : goal.In-loop-j) → (16 * (4 * c.loop-j.j) + 64 ≤ 1048576) × (16 * (4 * c.loop-j.j) + 64 ≤ length c.loop-j.out)
-room c =
-    let s = c.before.before.before.before.before.before in
-    (omega (arith, s.requires.3), omega (arith, s.requires.5, c.loop-j.invariant.2))
-
 pub loop-j-init : goal.loop-j-init
 unfolding chunks
 loop-j-init c = (omega arith, refl, refl)
 
 pub overflow_mul-k-in-loop-j-2 : goal.overflow_mul-k-in-loop-j-2
-overflow_mul-k-in-loop-j-2 c = omega (arith, (room c.before.before.before.before.before.before.before.before.before.before.before.before).0)
+overflow_mul-k-in-loop-j-2 c =
+    let room : (16 * (4 * c.loop-j.j) + 64 ≤ 1048576) × (16 * (4 * c.loop-j.j) + 64 ≤ length c.loop-j.out) =
+    (omega (arith, c.requires.3), omega (arith, c.requires.5, c.loop-j.invariant.2)) in
+    omega (arith, room.0)
 
 pub put_xored-requires : goal.put_xored-requires
-put_xored-requires c = omega (arith, (room c.before.before.before.before.before.before.before.before.before.before.before.before).1)
+put_xored-requires c =
+    let room : (16 * (4 * c.loop-j.j) + 64 ≤ 1048576) × (16 * (4 * c.loop-j.j) + 64 ≤ length c.loop-j.out) =
+    (omega (arith, c.requires.3), omega (arith, c.requires.5, c.loop-j.invariant.2)) in
+    omega (arith, room.1)
 
 pub overflow_mul-l-in-loop-j : goal.overflow_mul-l-in-loop-j
-overflow_mul-l-in-loop-j c = omega (arith, (room c.before.before.before.before.before.before.before.before.before.before.before.before.before.before.before.before).0)
+overflow_mul-l-in-loop-j c =
+    let room : (16 * (4 * c.loop-j.j) + 64 ≤ 1048576) × (16 * (4 * c.loop-j.j) + 64 ≤ length c.loop-j.out) =
+    (omega (arith, c.requires.3), omega (arith, c.requires.5, c.loop-j.invariant.2)) in
+    omega (arith, room.0)
 
 pub put_xored-requires-in-loop-j : goal.put_xored-requires-in-loop-j
 put_xored-requires-in-loop-j c =
-    let p1 = c.before.before.before in
-    omega (arith, (room p1.before.before.before.before.before.before.before.before.before.before.before.before.before).1, p1.put_xored.auto.0)
+    let room : (16 * (4 * c.loop-j.j) + 64 ≤ 1048576) × (16 * (4 * c.loop-j.j) + 64 ≤ length c.loop-j.out) =
+    (omega (arith, c.requires.3), omega (arith, c.requires.5, c.loop-j.invariant.2)) in
+    omega (arith, room.1, c.put_xored.auto.out)
 
 pub overflow_mul-m-in-loop-j : goal.overflow_mul-m-in-loop-j
 overflow_mul-m-in-loop-j c =
-    let p1 = c.before.before.before.before.before.before.before in
-    omega (arith, (room p1.before.before.before.before.before.before.before.before.before.before.before.before.before).0)
+    let room : (16 * (4 * c.loop-j.j) + 64 ≤ 1048576) × (16 * (4 * c.loop-j.j) + 64 ≤ length c.loop-j.out) =
+    (omega (arith, c.requires.3), omega (arith, c.requires.5, c.loop-j.invariant.2)) in
+    omega (arith, room.0)
 
 pub put_xored-requires-in-loop-j-2 : goal.put_xored-requires-in-loop-j-2
 put_xored-requires-in-loop-j-2 c =
-    let p2 = c.before.before.before in
-    let p1 = p2.before.before.before.before in
-    omega (arith, (room p1.before.before.before.before.before.before.before.before.before.before.before.before.before).1, p2.put_xored-in-loop-j.auto.0, p1.put_xored.auto.0)
+    let room : (16 * (4 * c.loop-j.j) + 64 ≤ 1048576) × (16 * (4 * c.loop-j.j) + 64 ≤ length c.loop-j.out) =
+    (omega (arith, c.requires.3), omega (arith, c.requires.5, c.loop-j.invariant.2)) in
+    omega (arith, room.1, c.put_xored-in-loop-j.auto.out, c.put_xored.auto.out)
 
 pub overflow_mul-o-in-loop-j : goal.overflow_mul-o-in-loop-j
 overflow_mul-o-in-loop-j c =
-    let p1 = c.before.before.before.before.before.before.before.before.before.before.before in
-    omega (arith, (room p1.before.before.before.before.before.before.before.before.before.before.before.before.before).0)
+    let room : (16 * (4 * c.loop-j.j) + 64 ≤ 1048576) × (16 * (4 * c.loop-j.j) + 64 ≤ length c.loop-j.out) =
+    (omega (arith, c.requires.3), omega (arith, c.requires.5, c.loop-j.invariant.2)) in
+    omega (arith, room.0)
 
 pub put_xored-requires-in-loop-j-3 : goal.put_xored-requires-in-loop-j-3
 put_xored-requires-in-loop-j-3 c =
-    let p3 = c.before.before.before in
-    let p2 = p3.before.before.before.before in
-    let p1 = p2.before.before.before.before in
+    let room : (16 * (4 * c.loop-j.j) + 64 ≤ 1048576) × (16 * (4 * c.loop-j.j) + 64 ≤ length c.loop-j.out) =
+    (omega (arith, c.requires.3), omega (arith, c.requires.5, c.loop-j.invariant.2)) in
     omega (
       arith,
-      (room p1.before.before.before.before.before.before.before.before.before.before.before.before.before).1,
-      p3.put_xored-in-loop-j-2.auto.0,
-      p2.put_xored-in-loop-j.auto.0,
-      p1.put_xored.auto.0,
+      room.1,
+      c.put_xored-in-loop-j-2.auto.out,
+      c.put_xored-in-loop-j.auto.out,
+      c.put_xored.auto.out,
     )
 
 pub overflow_step-j : goal.overflow_step-j
 overflow_step-j c =
-    let p1 = c.before.before.before.before.before.before.before.before.before.before.before.before.before.before in
-    omega (arith, (room p1.before.before.before.before.before.before.before.before.before.before.before.before.before).0)
+    let room : (16 * (4 * c.loop-j.j) + 64 ≤ 1048576) × (16 * (4 * c.loop-j.j) + 64 ≤ length c.loop-j.out) =
+    (omega (arith, c.requires.3), omega (arith, c.requires.5, c.loop-j.invariant.2)) in
+    omega (arith, room.0)
 
 pub loop-j-smaller : goal.loop-j-smaller
 loop-j-smaller c =
-    let p1 = c.before.before.before.before.before.before.before.before.before.before.before.before.before.before in
-    omega (arith, p1.loop-j-test.true)
+    omega (arith, c.loop-j-test.true)
 
 pub loop-j-preserved : goal.loop-j-preserved
 loop-j-preserved c =
-    let p4 = c.before.before in
-    let p3 = p4.before.before.before.before in
-    let p2 = p3.before.before.before.before in
-    let p1 = p2.before.before.before.before in
-    let y = p1.before.before.before.before.before.before in
-    let t4 = y.before.before in
-    let t3 = t4.before in
-    let t2 = t3.before in
-    let t1 = t2.before in
-    let l = t1.before.before.before in
-    let s = l.before.before.before.before.before in
-    let a = s.args in
-    let k = 4 * l.loop-j.j in
+    let a = c.args in
+    let k = 4 * c.loop-j.j in
     let f = imaged a.table.now in
-    let block = opened_words a.t1 s.requires.0 (rounds a.size) f (block_is s) a.iv.now a.sealed.now in
-    let turn = open_turn (opened s) (sized s) a.out-1.now in
+    let block = opened_words a.rows c.requires.0 (rounds a.size) f (block_is c) a.iv.now a.sealed.now in
+    let turn = open_turn (opened c) (sized c) a.out-1.now in
     let next : (n : ℕ) → words4 (f (block_of a.sealed.now n)) ≡ words4 (f (block_before a.iv.now a.sealed.now (n + 1))) =
     λ n. ap (λ (b : List ℕ). words4 (f b)) (before_more a.iv.now a.sealed.now n) in
-    let b1 = block k _ _ _ _ t1.before_words-prior.ensures t1.decoded_words-a.ensures y.decipher_four-y.ensures.0 refl in
-    let b2 = block (k + 1) _ _ _ _ (t1.decoded_words-a.ensures ∙ next k) t2.decoded_words-b.ensures y.decipher_four-y.ensures.1 refl in
-    let b3 = block (k + 1 + 1) _ _ _ _ (t2.decoded_words-b.ensures ∙ next (k + 1)) t3.decoded_words-c.ensures y.decipher_four-y.ensures.2 refl in
-    let b4 = block (k + 1 + 1 + 1) _ _ _ _ (t3.decoded_words-c.ensures ∙ next (k + 1 + 1)) t4.decoded_words-d.ensures y.decipher_four-y.ensures.3 refl in
-    let o1 = p1.put_xored.ensures ∙ turn k l.loop-j.out _ l.loop-j.invariant.1 b1 in
-    let o2 = p2.put_xored-in-loop-j.ensures ∙ turn (k + 1) _ _ o1 b2 in
-    let o3 = p3.put_xored-in-loop-j-2.ensures ∙ turn (k + 1 + 1) _ _ o2 b3 in
-    let o4 = p4.put_xored-in-loop-j-3.ensures ∙ turn (k + 1 + 1 + 1) _ _ o3 b4 in
-    let e : k + 1 + 1 + 1 + 1 ≡ 4 * (l.loop-j.j + 1) = omega arith in (
+    let b1 = block k _ _ _ _ c.before_words-prior.ensures c.decoded_words-a.ensures c.decipher_four-y.ensures.0 refl in
+    let b2 = block (k + 1) _ _ _ _ (c.decoded_words-a.ensures ∙ next k) c.decoded_words-b.ensures c.decipher_four-y.ensures.1 refl in
+    let b3 = block (k + 1 + 1) _ _ _ _ (c.decoded_words-b.ensures ∙ next (k + 1)) c.decoded_words-c.ensures c.decipher_four-y.ensures.2 refl in
+    let b4 = block (k + 1 + 1 + 1) _ _ _ _ (c.decoded_words-c.ensures ∙ next (k + 1 + 1)) c.decoded_words-d.ensures c.decipher_four-y.ensures.3 refl in
+    let o1 = c.put_xored.ensures ∙ turn k c.loop-j.out _ c.loop-j.invariant.1 b1 in
+    let o2 = c.put_xored-in-loop-j.ensures ∙ turn (k + 1) _ _ o1 b2 in
+    let o3 = c.put_xored-in-loop-j-2.ensures ∙ turn (k + 1 + 1) _ _ o2 b3 in
+    let o4 = c.put_xored-in-loop-j-3.ensures ∙ turn (k + 1 + 1 + 1) _ _ o3 b4 in
+    let e : k + 1 + 1 + 1 + 1 ≡ 4 * (c.loop-j.j + 1) = omega arith in (
       omega arith,
-      o4 ∙ (λ i. chunks (e i) (opened s) ++ drop (16 * e i) a.out-1.now),
-      p4.put_xored-in-loop-j-3.auto.0 ∙ p3.put_xored-in-loop-j-2.auto.0 ∙ p2.put_xored-in-loop-j.auto.0 ∙ p1.put_xored.auto.0 ∙ l.loop-j.invariant.2,
+      o4 ∙ (λ i. chunks (e i) (opened c) ++ drop (16 * e i) a.out-1.now),
+      c.put_xored-in-loop-j-3.auto.out ∙ c.put_xored-in-loop-j-2.auto.out ∙ c.put_xored-in-loop-j.auto.out ∙ c.put_xored.auto.out ∙ c.loop-j.invariant.2,
     )
 
 pub loop-k-init : goal.loop-k-init
 loop-k-init c =
-    let l = c.before in
-    let s = l.before.before.before.before.before in
-    let a = s.args in
-    let e : 4 * l.loop-j.j ≡ 4 * (a.n / 4) = omega arith in (
+    let a = c.args in
+    let e : 4 * c.loop-j.j ≡ 4 * (a.n / 4) = omega arith in (
       omega arith,
-      own_rest (opened s) (sized s) a.out-1.now (4 * (a.n / 4)) l.loop-j.out (l.loop-j.invariant.1 ∙ (λ i. chunks (e i) (opened s) ++ drop (16 * e i) a.out-1.now)),
+      own_rest (opened c) (sized c) a.out-1.now (4 * (a.n / 4)) c.loop-j.out (c.loop-j.invariant.1 ∙ (λ i. chunks (e i) (opened c) ++ drop (16 * e i) a.out-1.now)),
       refl,
     )
 
 pub loop-k-preserved : goal.loop-k-preserved
-loop-k-preserved c =
-    let p = c.before.before in
-    let m = p.before.before.before.before in
-    let l = m.before.before in
-    let s = l.before.before.before.before.before in (
-      omega arith,
-      p.put_block.ensures
-          ∙ open_turn (opened s) (sized s) l.loop-j.out m.loop-k.k m.loop-k.out _ m.loop-k.invariant.1 p.open_block.ensures,
-      p.put_block.auto.0 ∙ m.loop-k.invariant.2,
-    )
+loop-k-preserved c = (
+  omega arith,
+  c.put_block.ensures
+      ∙ open_turn (opened c) (sized c) c.loop-j.out c.loop-k.k c.loop-k.out _ c.loop-k.invariant.1 c.open_block.ensures,
+  c.put_block.auto.d ∙ c.loop-k.invariant.2,
+)
 
 pub shape_of-out : goal.shape_of-out
 shape_of-out c = c.loop-k.invariant.2 ∙ c.loop-j.invariant.2
 
 pub returns : goal.returns
 returns c =
-    let m = c.before in
-    let l = m.before.before in
-    let s = l.before.before.before.before.before in
-    let a = s.args in
-    let e : m.loop-k.k ≡ a.n = omega arith in
-    m.loop-k.invariant.1
-    ∙ (λ i. chunks (e i) (opened s) ++ drop (16 * e i) l.loop-j.out)
-    ∙ ap (λ (r : List ℕ). chunks a.n (opened s) ++ r)
-    (after (opened s) (sized s) a.out-1.now (4 * l.loop-j.j) a.n l.loop-j.out (omega arith) l.loop-j.invariant.1)
+    let a = c.args in
+    let e : c.loop-k.k ≡ a.n = omega arith in
+    c.loop-k.invariant.1
+    ∙ (λ i. chunks (e i) (opened c) ++ drop (16 * e i) c.loop-j.out)
+    ∙ ap (λ (r : List ℕ). chunks a.n (opened c) ++ r)
+    (after (opened c) (sized c) a.out-1.now (4 * c.loop-j.j) a.n c.loop-j.out (omega arith) c.loop-j.invariant.1)

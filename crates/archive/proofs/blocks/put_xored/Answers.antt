@@ -8,7 +8,5 @@ use Rattle.archive.proofs.blocks.put_xored.Goals as goal
 
 pub returns : goal.returns
 returns c =
-    let p = c.before.before in
-    let s = p.before.before.before.before.before in
-    p.put_block.ensures
-    ∙ ap (λ (b : List ℕ). take s.args.at s.args.out.now ++ b ++ drop (s.args.at + 16) s.args.out.now) (p.bytes.ensures ∙ ap bytes p.xor.ensures)
+    c.put_block.ensures
+    ∙ ap (λ (b : List ℕ). take c.args.at c.args.out.now ++ b ++ drop (c.args.at + 16) c.args.out.now) (c.bytes.ensures ∙ ap bytes c.xor.ensures)

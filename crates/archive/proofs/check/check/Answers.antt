@@ -9,72 +9,58 @@ use Rattle.cipher.proofs.InverseLaws.{low_set}
 use Rattle.archive.proofs.AnswerLaws.{set_done, check_34, check_1, check_set, check_7, check_8, check_verdict}
 use Rattle.archive.proofs.check.check.Goals as goal
 
--- the parameters, seen from the size that was found for the key
-abbrev given : goal.In-Found-2 → goal.Start
-given c = c.before.before.before.before.before.before.before.before.before.before.before
-
-known : (c : goal.In-Found-2) → Named (given c).args.schedule (given c).args.key.now c.in-Numbered.named c.in-Found.size
-known c =
-    let n = c.before.before.before.before in
-    (sym n.of_number.ensures ∙ n.in-Numbered.is, sym c.of_key_len.ensures ∙ c.in-Found.is)
-
 pub returns-in_default : goal.returns-in_default
 returns-in_default c = sym (check_34 _ _ _ _ _ (sym c.of_number.ensures ∙ c.in_default.is))
 
 pub returns-in_default-of_key_len : goal.returns-in_default-of_key_len
 returns-in_default-of_key_len c =
-    let k = c.before.before in
-    let n = k.before.before in
-    sym (check_1 _ _ _ _ _ _ (sym n.of_number.ensures ∙ n.in-Numbered.is) (sym k.of_key_len.ensures ∙ c.in_default-of_key_len.is))
+    sym (check_1 _ _ _ _ _ _ (sym c.of_number.ensures ∙ c.in-Numbered.is) (sym c.of_key_len.ensures ∙ c.in_default-of_key_len.is))
 
 pub returns-in-Refused : goal.returns-in-Refused
 returns-in-Refused c =
-    let s = c.before.before.before.before.before in
-    sym (check_set _ _ _ _ _ _ _ (known s) _ c.check_set.ensures _ c.in-Refused.is)
+    let known : Named c.args.schedule c.args.key.now c.in-Numbered.named c.in-Found.size =
+    (sym c.of_number.ensures ∙ c.in-Numbered.is, sym c.of_key_len.ensures ∙ c.in-Found.is) in
+    sym (check_set _ _ _ _ _ _ _ known _ c.check_set.ensures _ c.in-Refused.is)
 
 pub returns-then-tag-ne-BLOCK : goal.returns-then-tag-ne-BLOCK
 returns-then-tag-ne-BLOCK c =
-    let d = c.before in
-    let s = d.before.before.before.before in
-    sym (check_7 _ _ _ _ _ _ _ (known s) (set_done _ _ d.check_set.ensures d.in_default-check_set.is) c.if-tag-ne-BLOCK.true)
+    let known : Named c.args.schedule c.args.key.now c.in-Numbered.named c.in-Found.size =
+    (sym c.of_number.ensures ∙ c.in-Numbered.is, sym c.of_key_len.ensures ∙ c.in-Found.is) in
+    sym (check_7 _ _ _ _ _ _ _ known (set_done _ _ c.check_set.ensures c.in_default-check_set.is) c.if-tag-ne-BLOCK.true)
 
 pub returns-then-message-gt-LONGEST_MESSAGE : goal.returns-then-message-gt-LONGEST_MESSAGE
 returns-then-message-gt-LONGEST_MESSAGE c =
-    let d = c.before.before in
-    let s = d.before.before.before.before in
-    let set = set_done _ _ d.check_set.ensures d.in_default-check_set.is in
-    sym (check_8 _ _ _ _ _ _ _ (known s) set c.if-tag-ne-BLOCK.false c.if-message-gt-LONGEST_MESSAGE.true)
+    let known : Named c.args.schedule c.args.key.now c.in-Numbered.named c.in-Found.size =
+    (sym c.of_number.ensures ∙ c.in-Numbered.is, sym c.of_key_len.ensures ∙ c.in-Found.is) in
+    let set = set_done _ _ c.check_set.ensures c.in_default-check_set.is in
+    sym (check_8 _ _ _ _ _ _ _ known set c.if-tag-ne-BLOCK.false c.if-message-gt-LONGEST_MESSAGE.true)
 
 pub key_rows-requires : goal.key_rows-requires
 key_rows-requires c =
-    let s = c.before.before.before.before.before.before in
-    found_length key_length _ _ (known s).1
+    let known : Named c.args.schedule c.args.key.now c.in-Numbered.named c.in-Found.size =
+    (sym c.of_number.ensures ∙ c.in-Numbered.is, sym c.of_key_len.ensures ∙ c.in-Found.is) in
+    found_length key_length _ _ known.1
 
 pub code_block-requires : goal.code_block-requires
 code_block-requires c =
-    let d = c.before.before.before.before in
-    let s = (given d.before.before.before.before).args.set.now in
-    let v = set_done s _ d.check_set.ensures d.in_default-check_set.is in
+    let s = c.args.set.now in
+    let v = set_done s _ c.check_set.ensures c.in_default-check_set.is in
     (omega (arith, v.size-1), low_set s v.codings)
 
 pub returns-then-same : goal.returns-then-same
 returns-then-same c =
-    let f = c.before.before.before.before.before in
-    let d = f.before.before in
-    let s = d.before.before.before.before in
-    let p = s.before.before.before.before.before.before.before in
-    let set = set_done _ _ d.check_set.ensures d.in_default-check_set.is in
-    let tag = bytes_of_lem (given s).args.tag.now (λ j h. omega (arith, p.shared_slice_known-4-1.given j)) in
-    sym (check_verdict _ _ _ _ _ _ _ (known s) set f.if-tag-ne-BLOCK.false f.if-message-gt-LONGEST_MESSAGE.false _ _ _ _ c.key_rows.ensures
+    let known : Named c.args.schedule c.args.key.now c.in-Numbered.named c.in-Found.size =
+    (sym c.of_number.ensures ∙ c.in-Numbered.is, sym c.of_key_len.ensures ∙ c.in-Found.is) in
+    let set = set_done _ _ c.check_set.ensures c.in_default-check_set.is in
+    let tag = bytes_of_lem c.args.tag.now (λ j h. omega (arith, c.shared_slice_known-4-1.given j)) in
+    sym (check_verdict _ _ _ _ _ _ _ known set c.if-tag-ne-BLOCK.false c.if-message-gt-LONGEST_MESSAGE.false _ _ _ _ c.key_rows.ensures
     c.cmac-mac.ensures c.code_block.ensures tag (sym c.same.ensures ∙ c.if-same.true))
 
 pub returns : goal.returns
 returns c =
-    let f = c.before.before.before.before.before in
-    let d = f.before.before in
-    let s = d.before.before.before.before in
-    let p = s.before.before.before.before.before.before.before in
-    let set = set_done _ _ d.check_set.ensures d.in_default-check_set.is in
-    let tag = bytes_of_lem (given s).args.tag.now (λ j h. omega (arith, p.shared_slice_known-4-1.given j)) in
-    sym (check_verdict _ _ _ _ _ _ _ (known s) set f.if-tag-ne-BLOCK.false f.if-message-gt-LONGEST_MESSAGE.false _ _ _ _ c.key_rows.ensures
+    let known : Named c.args.schedule c.args.key.now c.in-Numbered.named c.in-Found.size =
+    (sym c.of_number.ensures ∙ c.in-Numbered.is, sym c.of_key_len.ensures ∙ c.in-Found.is) in
+    let set = set_done _ _ c.check_set.ensures c.in_default-check_set.is in
+    let tag = bytes_of_lem c.args.tag.now (λ j h. omega (arith, c.shared_slice_known-4-1.given j)) in
+    sym (check_verdict _ _ _ _ _ _ _ known set c.if-tag-ne-BLOCK.false c.if-message-gt-LONGEST_MESSAGE.false _ _ _ _ c.key_rows.ensures
     c.cmac-mac.ensures c.code_block.ensures tag (sym c.same.ensures ∙ c.if-same.false))

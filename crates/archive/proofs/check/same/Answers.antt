@@ -17,20 +17,18 @@ loop-k-init c = (omega arith, refl)
 
 pub loop-k-preserved : goal.loop-k-preserved
 loop-k-preserved c =
-    let l = c.before.before in
-    let x = l.args.a in
-    let y = l.args.b.now in
-    let k = l.loop-k.k in (
+    let x = c.args.a in
+    let y = c.args.b.now in
+    let k = c.loop-k.k in (
       omega arith,
-      fold_more l.loop-k.differs (get_or x k 0) (get_or y k 0)
-          ∙ ap (λ (t : Bool). t && eqb (get_or x k 0) (get_or y k 0)) l.loop-k.invariant.1
+      fold_more c.loop-k.differs (get_or x k 0) (get_or y k 0)
+          ∙ ap (λ (t : Bool). t && eqb (get_or x k 0) (get_or y k 0)) c.loop-k.invariant.1
           ∙ sym (every_more k (λ i. eqb (get_or x i 0) (get_or y i 0))),
     )
 
 pub returns : goal.returns
 unfolding same_block
 returns c =
-    let l = c.before in
-    let a = l.args in
-    let e : l.loop-k.k ≡ 16 = omega arith in
-    l.loop-k.invariant.1 ∙ ap (λ (n : ℕ). every n (λ i. eqb (get_or a.t1 i 0) (get_or a.b.now i 0))) e
+    let a = c.args in
+    let e : c.loop-k.k ≡ 16 = omega arith in
+    c.loop-k.invariant.1 ∙ ap (λ (n : ℕ). every n (λ i. eqb (get_or a.a i 0) (get_or a.b.now i 0))) e

@@ -24,19 +24,15 @@ slice_bounds-last_words-start c = omega (arith, before_most c.args.message.now _
 
 pub last_words-last-requires : goal.last_words-last-requires
 last_words-last-requires c =
-    let b = c.before.before.before in
-    let m = b.args.message.now in
+    let m = c.args.message.now in
     let k = c.subkeys.ensures in
-    (rw (part_end m (16 * b.blocks_before-n.result)) (left_most m _ b.blocks_before-n.ensures), rw k.0 (block_subkeys _ _).0, rw k.1 (block_subkeys _ _).1)
+    (rw (part_end m (16 * c.blocks_before-n.result)) (left_most m _ c.blocks_before-n.ensures), rw k.0 (block_subkeys _ _).0, rw k.1 (block_subkeys _ _).1)
 
 pub returns : goal.returns
 returns c =
-    let l = c.before.before.before in
-    let b = l.before.before.before.before in
-    let s = b.before.before in
-    let m = s.args.message.now in
-    let keys = l.subkeys.ensures in
-    let message = bytes_of_lem m (λ j h. omega (arith, b.shared_slice_known-1.given j)) in
-    let mac = c.encipher.ensures ∙ ap (forward s.args.rows (rounds s.args.size)) c.xor.ensures in
-    cmac_is s.args.rows (rounds s.args.size) m _ _ _ _ _ _ _ _ b.blocks_before-n.ensures keys.0 keys.1 (part_end m _) message
-    l.cbc_mac-x.ensures l.last_words-last.ensures mac c.bytes.ensures
+    let m = c.args.message.now in
+    let keys = c.subkeys.ensures in
+    let message = bytes_of_lem m (λ j h. omega (arith, c.shared_slice_known-1.given j)) in
+    let mac = c.encipher.ensures ∙ ap (forward c.args.rows (rounds c.args.size)) c.xor.ensures in
+    cmac_is c.args.rows (rounds c.args.size) m _ _ _ _ _ _ _ _ c.blocks_before-n.ensures keys.0 keys.1 (part_end m _) message
+    c.cbc_mac-x.ensures c.last_words-last.ensures mac c.bytes.ensures

@@ -13,15 +13,12 @@ loop-k-init c = (omega arith, refl)
 
 pub loop-k-preserved : goal.loop-k-preserved
 loop-k-preserved c =
-    let l = c.before.before in
-    (omega arith, fill_turn (λ i. get_or l.args.part.now i 0) 16 l.loop-k.b l.loop-k.k _ l.loop-k.invariant.1 refl (omega arith))
+    (omega arith, fill_turn (λ i. get_or c.args.part.now i 0) 16 c.loop-k.b c.loop-k.k _ c.loop-k.invariant.1 refl (omega arith))
 
 pub returns-then-n-lt-BLOCK : goal.returns-then-n-lt-BLOCK
 returns-then-n-lt-BLOCK c =
-    let l = c.before.before in
-    filled_part l.args.part.now l.loop-k.b l.loop-k.k l.loop-k.invariant.1 (omega arith) (omega arith)
+    filled_part c.args.part.now c.loop-k.b c.loop-k.k c.loop-k.invariant.1 (omega arith) (omega arith)
 
 pub returns-else-n-lt-BLOCK : goal.returns-else-n-lt-BLOCK
 returns-else-n-lt-BLOCK c =
-    let l = c.before.before in
-    filled_whole l.args.part.now l.loop-k.b l.loop-k.k l.loop-k.invariant.1 (omega arith) (omega arith)
+    filled_whole c.args.part.now c.loop-k.b c.loop-k.k c.loop-k.invariant.1 (omega arith) (omega arith)

@@ -12,9 +12,7 @@ invert-requires c =
 
 pub images-requires : goal.images-requires
 images-requires c =
-    let i = c.before.before.before in
-    let s = i.before.before.before.before in
-    let r = codes_ready s.args.set.now _ s.requires.0 i.invert.ensures in
+    let r = codes_ready c.args.set.now _ c.requires.0 c.invert.ensures in
     (r.0, r.1, search rules)
 
 pub returns : goal.returns

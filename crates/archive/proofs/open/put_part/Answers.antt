@@ -16,7 +16,7 @@ loop-k-preserved c =
     let v = c.loop-k.invariant in
     let a = c.args in
     let q = c.requires in
-    let pasted = paste_turn a.out.now c.loop-k.out a.t3 a.at a.n c.loop-k.k q.1 (omega arith) in
+    let pasted = paste_turn a.out.now c.loop-k.out a.b a.at a.n c.loop-k.k q.1 (omega arith) in
     (omega arith, v.1, pasted (omega (arith, q.0, v.1)) v.2, simp length-set v.3)
 
 pub returns : goal.returns
@@ -24,4 +24,4 @@ returns c =
     let v = c.loop-k.invariant in
     let a = c.args in
     let e : c.loop-k.k ≡ a.n = omega arith in
-    v.2 ∙ ap (λ (j : ℕ). paste a.out.now a.at a.t3 j) e
+    v.2 ∙ ap (λ (j : ℕ). paste a.out.now a.at a.b j) e

@@ -17,19 +17,16 @@ loop-k-init c = (omega arith, refl)
 
 pub returns-then-wide-v : goal.returns-then-wide-v
 returns-then-wide-v c =
-    let l = c.before.before.before in
-    let a = l.args in
-    sym (every_not a.v (λ i. eqb (get_or a.t1 (16 - a.v + i) 0) a.v) l.loop-k.k (omega arith) (ne_eqb _ _ (λ e. c.if-wide-v.true (c.wide.ensures.0 ∙ e))))
+    let a = c.args in
+    sym (every_not a.v (λ i. eqb (get_or a.b (16 - a.v + i) 0) a.v) c.loop-k.k (omega arith) (ne_eqb _ _ (λ e. c.if-wide-v.true (c.wide.ensures.0 ∙ e))))
 
 pub loop-k-preserved : goal.loop-k-preserved
 loop-k-preserved c =
-    let l = c.before.before.before in
-    let a = l.args in
-    (omega arith, every_next l.loop-k.k (λ i. eqb (get_or a.t1 (16 - a.v + i) 0) a.v) l.loop-k.invariant.1 (eq-eqb _ _ (sym c.wide.ensures.0 ∙ c.if-wide-v.false)))
+    let a = c.args in
+    (omega arith, every_next c.loop-k.k (λ i. eqb (get_or a.b (16 - a.v + i) 0) a.v) c.loop-k.invariant.1 (eq-eqb _ _ (sym c.wide.ensures.0 ∙ c.if-wide-v.false)))
 
 pub returns : goal.returns
 returns c =
-    let l = c.before in
-    let a = l.args in
-    let e : l.loop-k.k ≡ a.v = omega arith in
-    sym (ap (λ (n : ℕ). every n (λ i. eqb (get_or a.t1 (16 - a.v + i) 0) a.v)) (sym e) ∙ l.loop-k.invariant.1)
+    let a = c.args in
+    let e : c.loop-k.k ≡ a.v = omega arith in
+    sym (ap (λ (n : ℕ). every n (λ i. eqb (get_or a.b (16 - a.v + i) 0) a.v)) (sym e) ∙ c.loop-k.invariant.1)

@@ -13,10 +13,8 @@ returns-then-v-gt-BLOCK c = sym (padding_high c.args.b (search rules) (omega (ar
 
 pub returns-then-ends_with : goal.returns-then-ends_with
 returns-then-ends_with c =
-    let w = c.before.before.before.before in
-    padding_all w.args.b (search rules) _ w.wide-v.ensures.0 (omega arith) (omega arith) (sym c.ends_with.ensures ∙ c.if-ends_with.true)
+    padding_all c.args.b (search rules) _ c.wide-v.ensures.0 (omega arith) (omega arith) (sym c.ends_with.ensures ∙ c.if-ends_with.true)
 
 pub returns-else-ends_with : goal.returns-else-ends_with
 returns-else-ends_with c =
-    let w = c.before.before.before.before in
-    padding_not w.args.b (search rules) _ w.wide-v.ensures.0 (omega arith) (omega arith) (sym c.ends_with.ensures ∙ c.if-ends_with.false)
+    padding_not c.args.b (search rules) _ c.wide-v.ensures.0 (omega arith) (omega arith) (sym c.ends_with.ensures ∙ c.if-ends_with.false)

@@ -13,16 +13,14 @@ loop-k-init c = (omega arith, refl, refl)
 
 pub start_byte-requires : goal.start_byte-requires
 start_byte-requires c =
-    let s = c.before.before.before in
-    start_low s.args.last.now s.requires.0 s.loop-k.k (omega arith)
+    start_low c.args.last.now c.requires.0 c.loop-k.k (omega arith)
 
 pub loop-k-preserved : goal.loop-k-preserved
-loop-k-preserved c =
-    let s = c.before.before.before.before in (
-      omega arith,
-      simp length-set s.loop-k.invariant.1,
-      tab_turn (start_byte s.args.last.now) _ _ _ _ s.loop-k.invariant.2 c.start_byte.ensures (omega arith),
-    )
+loop-k-preserved c = (
+  omega arith,
+  simp length-set c.loop-k.invariant.1,
+  tab_turn (start_byte c.args.last.now) _ _ _ _ c.loop-k.invariant.2 c.start_byte.ensures (omega arith),
+)
 
 pub shape_of-out : goal.shape_of-out
 shape_of-out c = c.loop-k.invariant.1

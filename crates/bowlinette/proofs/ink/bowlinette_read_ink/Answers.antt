@@ -5,10 +5,8 @@ use Rattle.bowlinette.proofs.ink.bowlinette_read_ink.Goals as goal
 
 pub returns-then-refusal-eq0 : goal.returns-then-refusal-eq0
 returns-then-refusal-eq0 c =
-    let n = c.before.before in
-    taken _ _ _ _ _ (ink_told_lem _ _ _ c.numbers.ensures n.read_ink-found.ensures) n.number-refusal.ensures c.if-refusal-eq0.true
+    taken _ _ _ _ _ (ink_told_lem _ _ _ c.numbers.ensures c.read_ink-found.ensures) c.number-refusal.ensures c.if-refusal-eq0.true
 
 pub returns-else-refusal-eq0 : goal.returns-else-refusal-eq0
 returns-else-refusal-eq0 c =
-    let n = c.before in
-    refused _ _ _ _ _ (ink_told_lem _ _ _ refl n.read_ink-found.ensures) n.number-refusal.ensures c.if-refusal-eq0.false
+    refused _ _ _ _ _ (ink_told_lem _ _ _ refl c.read_ink-found.ensures) c.number-refusal.ensures c.if-refusal-eq0.false

@@ -4,4 +4,4 @@ use Prim.Native.Nat.{ℕ}
 use Rattle.bowlinette.proofs.review.bowlinette_build_reading.Goals as goal
 
 pub returns : goal.returns
-returns c = ap (λ (n : ℕ). (n, c.build_reading-outcome.new.1.1.1.0)) c.number.ensures ∙ c.build_reading-outcome.ensures
+returns c = ap (λ (n : ℕ). (n, c.build_reading-outcome.new.out)) c.number.ensures ∙ c.build_reading-outcome.ensures

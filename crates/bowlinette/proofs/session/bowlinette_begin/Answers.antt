@@ -8,9 +8,7 @@ use Rattle.bowlinette.proofs.session.bowlinette_begin.Goals as goal
 
 pub returns : goal.returns
 returns c =
-    let n = c.before.before in
-    let b = n.before in
-    let held = b.args.s.now in
+    let held = c.args.s.now in
     c.deliver_session.ensures
-    ∙ ap (λ (k : ℕ). into (k, record_of b.begin-a.result.session) held) n.number.ensures
-    ∙ ap (λ (t : ℕ × Session). into (recorded t) held) b.begin-a.ensures
+    ∙ ap (λ (k : ℕ). into (k, record_of c.begin-a.result.session) held) c.number.ensures
+    ∙ ap (λ (t : ℕ × Session). into (recorded t) held) c.begin-a.ensures

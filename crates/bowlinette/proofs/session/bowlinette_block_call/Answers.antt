@@ -9,10 +9,8 @@ use Rattle.bowlinette.proofs.session.bowlinette_block_call.Goals as goal
 
 pub returns : goal.returns
 returns c =
-    let n = c.before.before in
-    let b = n.before in
-    let a = b.args in
-    let told = b.block_call-a.ensures ∙ ap (block_answer a.book.now a.block.now) b.session_in.ensures in
+    let a = c.args in
+    let told = c.block_call-a.ensures ∙ ap (block_answer a.book.now a.block.now) c.session_in.ensures in
     c.deliver_session.ensures
-    ∙ ap (λ (k : ℕ). into (k, record_of b.block_call-a.result.session) a.s.now) n.number.ensures
+    ∙ ap (λ (k : ℕ). into (k, record_of c.block_call-a.result.session) a.s.now) c.number.ensures
     ∙ ap (λ (t : ℕ × Session). into (recorded t) a.s.now) told

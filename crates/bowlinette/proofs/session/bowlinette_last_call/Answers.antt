@@ -12,10 +12,8 @@ use Rattle.bowlinette.proofs.session.bowlinette_last_call.Goals as goal
 
 pub returns : goal.returns
 returns c =
-    let d = c.before.before in
-    let l = d.before.before in
-    let a = l.args in
-    let r = l.last_call-a.result in
-    let told = l.last_call-a.ensures ∙ ap (last_answer a.book.now a.block.now a.kind) l.session_in.ensures in
-    into_both (block_told r.answer) _ _ _ a.tag.now (record_of r.session) _ a.s.now d.deliver-n.ensures c.deliver_session.ensures
+    let a = c.args in
+    let r = c.last_call-a.result in
+    let told = c.last_call-a.ensures ∙ ap (last_answer a.book.now a.block.now a.kind) c.session_in.ensures in
+    into_both (block_told r.answer) _ _ _ a.tag.now (record_of r.session) _ a.s.now c.deliver-n.ensures c.deliver_session.ensures
     ∙ ap (λ (t : (ℕ × List ℕ) × Session). into {A = List ℕ × List ℕ} (tag_recorded t) (a.tag.now, a.s.now)) told

@@ -10,13 +10,11 @@ loop-k-init c = (omega arith, refl)
 
 pub loop-k-preserved : goal.loop-k-preserved
 loop-k-preserved c =
-    let h = c.before.before in
-    let a = h.args in
-    (omega arith, fill_turn (λ k. get_or a.s.now (a.at + k) 0) 16 h.loop-k.b h.loop-k.k _ h.loop-k.invariant.1 refl (omega arith))
+    let a = c.args in
+    (omega arith, fill_turn (λ k. get_or a.s.now (a.at + k) 0) 16 c.loop-k.b c.loop-k.k _ c.loop-k.invariant.1 refl (omega arith))
 
 pub returns : goal.returns
 returns c =
-    let h = c.before in
-    let a = h.args in
-    fill_full (λ k. get_or a.s.now (a.at + k) 0) 16 h.loop-k.b h.loop-k.k h.loop-k.invariant.1 (omega arith)
-    ∙ tab_part a.s.now a.at 16 h.requires
+    let a = c.args in
+    fill_full (λ k. get_or a.s.now (a.at + k) 0) 16 c.loop-k.b c.loop-k.k c.loop-k.invariant.1 (omega arith)
+    ∙ tab_part a.s.now a.at 16 c.requires

@@ -12,18 +12,15 @@ loop-k-init c = (omega arith, refl)
 
 pub code_byte-requires : goal.code_byte-requires
 code_byte-requires c =
-    let h = c.before in
-    (omega arith, h.requires.0, h.requires.1)
+    (omega arith, c.requires.0, c.requires.1)
 
 pub loop-k-preserved : goal.loop-k-preserved
 loop-k-preserved c =
-    let h = c.before.before in
-    let a = h.args in
-    (omega arith, fill_turn (λ k. byte_coded a.set.now k (get_or a.t2 k 0)) 16 h.loop-k.c h.loop-k.k c.code_byte.result h.loop-k.invariant.1 c.code_byte.ensures (omega arith))
+    let a = c.args in
+    (omega arith, fill_turn (λ k. byte_coded a.set.now k (get_or a.b k 0)) 16 c.loop-k.c c.loop-k.k c.code_byte.result c.loop-k.invariant.1 c.code_byte.ensures (omega arith))
 
 pub returns : goal.returns
 returns c =
-    let h = c.before in
-    let a = h.args in
-    fill_full (λ k. byte_coded a.set.now k (get_or a.t2 k 0)) 16 h.loop-k.c h.loop-k.k h.loop-k.invariant.1 (omega arith)
-    ∙ sym (coded_each a.set.now a.t2)
+    let a = c.args in
+    fill_full (λ k. byte_coded a.set.now k (get_or a.b k 0)) 16 c.loop-k.c c.loop-k.k c.loop-k.invariant.1 (omega arith)
+    ∙ sym (coded_each a.set.now a.b)

@@ -4,17 +4,14 @@ use Rattle.cipher.proofs.block.code_byte.Goals as goal
 
 pub overflow_mul-result : goal.overflow_mul-result
 overflow_mul-result c =
-    let s = c.before.before in
-    omega (arith, s.requires.2 (32 * s.args.k + 16 + s.args.x / 16) (omega arith))
+    omega (arith, c.requires.2 (32 * c.args.k + 16 + c.args.x / 16) (omega arith))
 
 pub overflow_add-result-4 : goal.overflow_add-result-4
 overflow_add-result-4 c =
-    let s = c.before.before in
-    omega (arith, s.requires.2 (32 * s.args.k + s.args.x % 16) (omega arith), s.requires.2 (32 * s.args.k + 16 + s.args.x / 16) (omega arith))
+    omega (arith, c.requires.2 (32 * c.args.k + c.args.x % 16) (omega arith), c.requires.2 (32 * c.args.k + 16 + c.args.x / 16) (omega arith))
 
 pub returns : goal.returns
 returns c =
-    let s = c.before.before in
-    let a = s.args in
+    let a = c.args in
     let e : a.x / 16 ≡ a.x / 16 % 16 = omega arith in
     ap (λ (y : ℕ). get_or a.set.now (32 * a.k + a.x % 16) 0 + 16 * get_or a.set.now (32 * a.k + 16 + y) 0) e

@@ -16,4 +16,4 @@ pub returns : goal.returns
 returns c =
     let v = c.loop-k.invariant in
     let a = c.args in
-    paste_full a.d.now c.loop-k.d a.t3 a.at 16 c.loop-k.k v.2 (omega arith) v.1
+    paste_full a.d.now c.loop-k.d a.b a.at 16 c.loop-k.k v.2 (omega arith) v.1

@@ -1,6 +1,5 @@
 -- `chain::all_masks_hold` meets its contract. The invariant: the masks of the first l rounds hold.
-use Rattle.std.proofs.Common.{◌≡◌, ℕ, ◌+◌, ◌*◌, List, sym, refl, ap, ◌∙◌, arith, length-drop}
-use borrow.Author.Tests.{not-true, not-false}
+use Rattle.std.proofs.Common.{◌≡◌, ℕ, ◌+◌, ◌*◌, true, List, sym, refl, ap, ◌∙◌, arith, length-drop}
 use Rattle.lists.specs.Every.{every}
 use Rattle.lists.proofs.EveryLaws.{every_not}
 use Rattle.lists.proofs.PartLaws.{part_end}
@@ -14,33 +13,29 @@ loop-l-init c = (omega arith, refl)
 
 pub masks_hold-requires : goal.masks_hold-requires
 masks_hold-requires c =
-    let h = c.before.before in
-    let a = h.args in
-    rw (part_end a.chain.now (512 * (a.r + 2) + 408 * h.loop-l.l), length-drop) (omega arith)
+    let a = c.args in
+    rw (part_end a.chain.now (512 * (a.r + 2) + 408 * c.loop-l.l), length-drop) (omega arith)
 
 pub returns-then-not-masks_hold : goal.returns-then-not-masks_hold
 unfolding mask_rule_holds
 returns-then-not-masks_hold c =
-    let h = c.before.before.before.before in
-    let a = h.args in
-    sym (every_not a.r _ h.loop-l.l (omega arith)
-    (ap (λ (s : List ℕ). masks_hold s) (sym (part_end a.chain.now (512 * (a.r + 2) + 408 * h.loop-l.l)))
-    ∙ sym c.masks_hold.ensures ∙ not-true _ c.if-not-masks_hold.true-raw))
+    let a = c.args in
+    sym (every_not a.r _ c.loop-l.l (omega arith)
+    (ap (λ (s : List ℕ). masks_hold s) (sym (part_end a.chain.now (512 * (a.r + 2) + 408 * c.loop-l.l)))
+    ∙ sym c.masks_hold.ensures ∙ c.if-not-masks_hold.true))
 
 pub loop-l-preserved : goal.loop-l-preserved
 loop-l-preserved c =
-    let h = c.before.before.before.before in
-    let a = h.args in (
+    let a = c.args in (
       omega arith,
-      every_next h.loop-l.l _ h.loop-l.invariant.1
-          (ap (λ (s : List ℕ). masks_hold s) (sym (part_end a.chain.now (512 * (a.r + 2) + 408 * h.loop-l.l)))
-          ∙ sym c.masks_hold.ensures ∙ not-false _ c.if-not-masks_hold.false-raw),
+      every_next c.loop-l.l _ c.loop-l.invariant.1
+          (ap (λ (s : List ℕ). masks_hold s) (sym (part_end a.chain.now (512 * (a.r + 2) + 408 * c.loop-l.l)))
+          ∙ sym c.masks_hold.ensures ∙ c.if-not-masks_hold.false),
     )
 
 pub returns : goal.returns
 unfolding mask_rule_holds
 returns c =
-    let h = c.before in
-    let a = h.args in
-    let e : h.loop-l.l ≡ a.r = omega arith in
-    sym h.loop-l.invariant.1 ∙ ap (λ (n : ℕ). every n (λ l. masks_hold (round_bytes a.r a.chain.now l))) e
+    let a = c.args in
+    let e : c.loop-l.l ≡ a.r = omega arith in
+    sym c.loop-l.invariant.1 ∙ ap (λ (n : ℕ). every n (λ l. masks_hold (round_bytes a.r a.chain.now l))) e

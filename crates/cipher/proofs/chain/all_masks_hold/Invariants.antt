@@ -5,7 +5,7 @@ use Rattle.cipher.specs.Chain.{masks_hold, round_bytes}
 use Rattle.cipher.proofs.chain.all_masks_hold.Given as goal
 
 abbrev pub invariant-loop-l : goal.invariant-loop-l
-invariant-loop-l l = (l.l ≤ l.r) × (every l.l (λ l. masks_hold (round_bytes l.r l.chain l)) ≡ true)
+invariant-loop-l v = (v.l ≤ v.r) × (every v.l (λ l. masks_hold (round_bytes v.r v.chain l)) ≡ true)
 
 abbrev pub decreases-loop-l : goal.decreases-loop-l
 decreases-loop-l l = l.r - l.l

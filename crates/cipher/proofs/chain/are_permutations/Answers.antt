@@ -1,6 +1,5 @@
 -- `chain::are_permutations` meets its contract. The invariant: the first k codings are permutations.
-use Rattle.std.proofs.Common.{◌≡◌, ℕ, sym, refl, ap, ◌∙◌, arith}
-use borrow.Author.Tests.{not-true, not-false}
+use Rattle.std.proofs.Common.{◌≡◌, ℕ, true, sym, refl, ap, ◌∙◌, arith}
 use Rattle.lists.specs.Every.{every}
 use Rattle.lists.proofs.EveryLaws.{every_not}
 use Rattle.cipher.specs.Chain.{are_permutations}
@@ -14,18 +13,15 @@ loop-k-init c = (omega arith, refl)
 pub returns-then-not-is_permutation : goal.returns-then-not-is_permutation
 unfolding are_permutations
 returns-then-not-is_permutation c =
-    let h = c.before.before.before in
-    sym (every_not _ _ h.loop-k.k (omega arith) (sym c.is_permutation.ensures ∙ not-true _ c.if-not-is_permutation.true-raw))
+    sym (every_not _ _ c.loop-k.k (omega arith) (sym c.is_permutation.ensures ∙ c.if-not-is_permutation.true))
 
 pub loop-k-preserved : goal.loop-k-preserved
 unfolding are_permutations
 loop-k-preserved c =
-    let h = c.before.before.before in
-    (omega arith, every_next h.loop-k.k _ h.loop-k.invariant.1 (sym c.is_permutation.ensures ∙ not-false _ c.if-not-is_permutation.false-raw))
+    (omega arith, every_next c.loop-k.k _ c.loop-k.invariant.1 (sym c.is_permutation.ensures ∙ c.if-not-is_permutation.false))
 
 pub returns : goal.returns
 returns c =
-    let h = c.before in
-    let a = h.args in
-    let e : h.loop-k.k ≡ a.n = omega arith in
-    sym h.loop-k.invariant.1 ∙ ap (λ (n : ℕ). are_permutations n a.s.now) e
+    let a = c.args in
+    let e : c.loop-k.k ≡ a.n = omega arith in
+    sym c.loop-k.invariant.1 ∙ ap (λ (n : ℕ). are_permutations n a.s.now) e

@@ -11,7 +11,6 @@ returns-in_default c =
 
 pub returns : goal.returns
 returns c =
-    let s = c.before.before in
-    let a = s.args in
+    let a = c.args in
     c.check_sized.ensures
-    ∙ sym (length_taken a.n (λ z. chain_tests z a.chain.now) (λ q. q) (λ z. 0) s.in-Found.size (sym s.of_key_len.ensures ∙ s.in-Found.is))
+    ∙ sym (length_taken a.n (λ z. chain_tests z a.chain.now) (λ q. q) (λ z. 0) c.in-Found.size (sym c.of_key_len.ensures ∙ c.in-Found.is))

@@ -1,6 +1,5 @@
 -- `chain::check_rule` meets its contract.
 use Rattle.std.proofs.Common.{◌≡◌, ℕ, ◌+◌, ◌*◌, ◌≤◌, Bool, true, false, List, length, sym, ap, ◌∙◌, arith}
-use borrow.Author.Tests.{not-true, not-false}
 use Rattle.cipher.specs.KeySize.{rounds, chain_length}
 use Rattle.cipher.specs.Chain.{coding_rule_holds, words_kept, mask_rule_holds}
 use Rattle.cipher.specs.declared.size.KeySize.{KeySize}
@@ -21,59 +20,45 @@ returns-then-chain-chain_len c = sym (chain_length_wrong _ _ _ _ (λ e. c.if-cha
 
 pub codings_permute-requires : goal.codings_permute-requires
 codings_permute-requires c =
-    let h = c.before in
-    let a = h.args in
-    long a.size a.chain.now _ c.rounds-r.ensures (h.if-chain-chain_len.false ∙ h.chain_len.ensures)
+    let a = c.args in
+    long a.size a.chain.now _ c.rounds-r.ensures (c.if-chain-chain_len.false ∙ c.chain_len.ensures)
 
 pub returns-then-not-codings_permute : goal.returns-then-not-codings_permute
 returns-then-not-codings_permute c =
-    let r = c.before.before in
-    let a = r.args in
-    sym (chain_codings_wrong a.from a.to a.size a.chain.now (r.if-chain-chain_len.false ∙ r.chain_len.ensures)
-    (told coding_rule_holds a.size a.chain.now _ _ false r.rounds-r.ensures c.codings_permute.ensures (not-true _ c.if-not-codings_permute.true-raw)))
+    let a = c.args in
+    sym (chain_codings_wrong a.from a.to a.size a.chain.now (c.if-chain-chain_len.false ∙ c.chain_len.ensures)
+    (told coding_rule_holds a.size a.chain.now _ _ false c.rounds-r.ensures c.codings_permute.ensures (c.if-not-codings_permute.true)))
 
 pub words_kept-requires : goal.words_kept-requires
 words_kept-requires c =
-    let r = c.before.before in
-    let h = r.before in
-    let a = h.args in
-    let room = long a.size a.chain.now _ r.rounds-r.ensures (h.if-chain-chain_len.false ∙ h.chain_len.ensures) in
-    (room.0, room.1, h.requires.0, h.requires.1)
+    let a = c.args in
+    let room = long a.size a.chain.now _ c.rounds-r.ensures (c.if-chain-chain_len.false ∙ c.chain_len.ensures) in
+    (room.0, room.1, c.requires.0, c.requires.1)
 
 pub returns-then-not-words_kept : goal.returns-then-not-words_kept
 returns-then-not-words_kept c =
-    let p = c.before.before in
-    let r = p.before.before in
-    let a = r.args in
-    sym (chain_words_wrong a.from a.to a.size a.chain.now (r.if-chain-chain_len.false ∙ r.chain_len.ensures)
-    (told coding_rule_holds a.size a.chain.now _ _ true r.rounds-r.ensures p.codings_permute.ensures (not-false _ p.if-not-codings_permute.false-raw))
-    (told (words_kept a.from a.to) a.size a.chain.now _ _ false r.rounds-r.ensures c.words_kept.ensures (not-true _ c.if-not-words_kept.true-raw)))
+    let a = c.args in
+    sym (chain_words_wrong a.from a.to a.size a.chain.now (c.if-chain-chain_len.false ∙ c.chain_len.ensures)
+    (told coding_rule_holds a.size a.chain.now _ _ true c.rounds-r.ensures c.codings_permute.ensures (c.if-not-codings_permute.false))
+    (told (words_kept a.from a.to) a.size a.chain.now _ _ false c.rounds-r.ensures c.words_kept.ensures (c.if-not-words_kept.true)))
 
 pub all_masks_hold-requires : goal.all_masks_hold-requires
 all_masks_hold-requires c =
-    let r = c.before.before.before.before in
-    let h = r.before in
-    let a = h.args in
-    long a.size a.chain.now _ r.rounds-r.ensures (h.if-chain-chain_len.false ∙ h.chain_len.ensures)
+    let a = c.args in
+    long a.size a.chain.now _ c.rounds-r.ensures (c.if-chain-chain_len.false ∙ c.chain_len.ensures)
 
 pub returns-then-not-all_masks_hold : goal.returns-then-not-all_masks_hold
 returns-then-not-all_masks_hold c =
-    let w = c.before.before in
-    let p = w.before.before in
-    let r = p.before.before in
-    let a = r.args in
-    sym (chain_masks_wrong a.from a.to a.size a.chain.now (r.if-chain-chain_len.false ∙ r.chain_len.ensures)
-    (told coding_rule_holds a.size a.chain.now _ _ true r.rounds-r.ensures p.codings_permute.ensures (not-false _ p.if-not-codings_permute.false-raw))
-    (told (words_kept a.from a.to) a.size a.chain.now _ _ true r.rounds-r.ensures w.words_kept.ensures (not-false _ w.if-not-words_kept.false-raw))
-    (told mask_rule_holds a.size a.chain.now _ _ false r.rounds-r.ensures c.all_masks_hold.ensures (not-true _ c.if-not-all_masks_hold.true-raw)))
+    let a = c.args in
+    sym (chain_masks_wrong a.from a.to a.size a.chain.now (c.if-chain-chain_len.false ∙ c.chain_len.ensures)
+    (told coding_rule_holds a.size a.chain.now _ _ true c.rounds-r.ensures c.codings_permute.ensures (c.if-not-codings_permute.false))
+    (told (words_kept a.from a.to) a.size a.chain.now _ _ true c.rounds-r.ensures c.words_kept.ensures (c.if-not-words_kept.false))
+    (told mask_rule_holds a.size a.chain.now _ _ false c.rounds-r.ensures c.all_masks_hold.ensures (c.if-not-all_masks_hold.true)))
 
 pub returns : goal.returns
 returns c =
-    let w = c.before.before in
-    let p = w.before.before in
-    let r = p.before.before in
-    let a = r.args in
-    sym (chain_right a.from a.to a.size a.chain.now (r.if-chain-chain_len.false ∙ r.chain_len.ensures)
-    (told coding_rule_holds a.size a.chain.now _ _ true r.rounds-r.ensures p.codings_permute.ensures (not-false _ p.if-not-codings_permute.false-raw))
-    (told (words_kept a.from a.to) a.size a.chain.now _ _ true r.rounds-r.ensures w.words_kept.ensures (not-false _ w.if-not-words_kept.false-raw))
-    (told mask_rule_holds a.size a.chain.now _ _ true r.rounds-r.ensures c.all_masks_hold.ensures (not-false _ c.if-not-all_masks_hold.false-raw)))
+    let a = c.args in
+    sym (chain_right a.from a.to a.size a.chain.now (c.if-chain-chain_len.false ∙ c.chain_len.ensures)
+    (told coding_rule_holds a.size a.chain.now _ _ true c.rounds-r.ensures c.codings_permute.ensures (c.if-not-codings_permute.false))
+    (told (words_kept a.from a.to) a.size a.chain.now _ _ true c.rounds-r.ensures c.words_kept.ensures (c.if-not-words_kept.false))
+    (told mask_rule_holds a.size a.chain.now _ _ true c.rounds-r.ensures c.all_masks_hold.ensures (c.if-not-all_masks_hold.false)))

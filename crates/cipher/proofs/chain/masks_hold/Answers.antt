@@ -11,19 +11,16 @@ loop-k-init c = (omega arith, refl)
 
 pub returns-then-s-k-gt1 : goal.returns-then-s-k-gt1
 returns-then-s-k-gt1 c =
-    let h = c.before.before.before in
-    let m = get_or h.args.s.now (384 + h.loop-k.k) 0 in
-    sym (every_not 24 _ h.loop-k.k (omega arith) (le-ltb m 2 (omega (arith, c.if-s-k-gt1.true))))
+    let m = get_or c.args.s.now (384 + c.loop-k.k) 0 in
+    sym (every_not 24 _ c.loop-k.k (omega arith) (le-ltb m 2 (omega (arith, c.if-s-k-gt1.true))))
 
 pub loop-k-preserved : goal.loop-k-preserved
 loop-k-preserved c =
-    let h = c.before.before.before in
-    let m = get_or h.args.s.now (384 + h.loop-k.k) 0 in
-    (omega arith, every_next h.loop-k.k _ h.loop-k.invariant.1 (lt-ltb m 2 (omega (arith, c.if-s-k-gt1.false))))
+    let m = get_or c.args.s.now (384 + c.loop-k.k) 0 in
+    (omega arith, every_next c.loop-k.k _ c.loop-k.invariant.1 (lt-ltb m 2 (omega (arith, c.if-s-k-gt1.false))))
 
 pub returns : goal.returns
 returns c =
-    let h = c.before in
-    let a = h.args in
-    let e : h.loop-k.k ≡ 24 = omega arith in
-    sym h.loop-k.invariant.1 ∙ ap (λ (n : ℕ). every n (λ k. ltb (get_or a.s.now (384 + k) 0) 2)) e
+    let a = c.args in
+    let e : c.loop-k.k ≡ 24 = omega arith in
+    sym c.loop-k.invariant.1 ∙ ap (λ (n : ℕ). every n (λ k. ltb (get_or a.s.now (384 + k) 0) 2)) e

@@ -1,6 +1,5 @@
 -- `chain::middles_permute` meets its contract. The invariant: the middle codings of the first l rounds are permutations.
-use Rattle.std.proofs.Common.{◌≡◌, ℕ, ◌+◌, ◌*◌, sym, refl, ap, ◌∙◌, arith, length-drop}
-use borrow.Author.Tests.{not-true, not-false}
+use Rattle.std.proofs.Common.{◌≡◌, ℕ, ◌+◌, ◌*◌, true, sym, refl, ap, ◌∙◌, arith, length-drop}
 use Rattle.lists.specs.Every.{every}
 use Rattle.lists.proofs.EveryLaws.{every_not}
 use Rattle.lists.proofs.PartLaws.{part_end}
@@ -14,31 +13,27 @@ loop-l-init c = (omega arith, refl)
 
 pub are_permutations-requires : goal.are_permutations-requires
 are_permutations-requires c =
-    let h = c.before.before in
-    let a = h.args in
-    rw (part_end a.chain.now (512 * (a.r + 2) + 408 * h.loop-l.l), length-drop) (omega arith)
+    let a = c.args in
+    rw (part_end a.chain.now (512 * (a.r + 2) + 408 * c.loop-l.l), length-drop) (omega arith)
 
 pub returns-then-not-are_permutations : goal.returns-then-not-are_permutations
 returns-then-not-are_permutations c =
-    let h = c.before.before.before.before in
-    let a = h.args in
-    sym (every_not a.r _ h.loop-l.l (omega arith)
-    (ap (are_permutations 24) (sym (part_end a.chain.now (512 * (a.r + 2) + 408 * h.loop-l.l)))
-    ∙ sym c.are_permutations.ensures ∙ not-true _ c.if-not-are_permutations.true-raw))
+    let a = c.args in
+    sym (every_not a.r _ c.loop-l.l (omega arith)
+    (ap (are_permutations 24) (sym (part_end a.chain.now (512 * (a.r + 2) + 408 * c.loop-l.l)))
+    ∙ sym c.are_permutations.ensures ∙ c.if-not-are_permutations.true))
 
 pub loop-l-preserved : goal.loop-l-preserved
 loop-l-preserved c =
-    let h = c.before.before.before.before in
-    let a = h.args in (
+    let a = c.args in (
       omega arith,
-      every_next h.loop-l.l _ h.loop-l.invariant.1
-          (ap (are_permutations 24) (sym (part_end a.chain.now (512 * (a.r + 2) + 408 * h.loop-l.l)))
-          ∙ sym c.are_permutations.ensures ∙ not-false _ c.if-not-are_permutations.false-raw),
+      every_next c.loop-l.l _ c.loop-l.invariant.1
+          (ap (are_permutations 24) (sym (part_end a.chain.now (512 * (a.r + 2) + 408 * c.loop-l.l)))
+          ∙ sym c.are_permutations.ensures ∙ c.if-not-are_permutations.false),
     )
 
 pub returns : goal.returns
 returns c =
-    let h = c.before in
-    let a = h.args in
-    let e : h.loop-l.l ≡ a.r = omega arith in
-    sym h.loop-l.invariant.1 ∙ ap (λ (n : ℕ). every n (λ l. are_permutations 24 (round_bytes a.r a.chain.now l))) e
+    let a = c.args in
+    let e : c.loop-l.l ≡ a.r = omega arith in
+    sym c.loop-l.invariant.1 ∙ ap (λ (n : ℕ). every n (λ l. are_permutations 24 (round_bytes a.r a.chain.now l))) e

@@ -1,6 +1,5 @@
 -- `chain::words_kept` meets its contract. The invariant: the rule holds after each of the first sets.
 use Rattle.std.proofs.Common.{◌≡◌, ℕ, ◌+◌, ◌*◌, true, false, sym, refl, ap, ◌∙◌, arith, length-drop}
-use borrow.Author.Tests.{not-true, not-false}
 use Rattle.lists.specs.Every.{every}
 use Rattle.lists.proofs.EveryLaws.{every_not}
 use Rattle.lists.proofs.PartLaws.{part_end}
@@ -14,35 +13,31 @@ loop-set-init c = (omega arith, refl)
 
 pub word_kept-requires : goal.word_kept-requires
 word_kept-requires c =
-    let h = c.before.before.before in
-    let a = h.args in (
-      h.requires.2,
-      h.requires.3,
-      rw (part_end a.chain.now (512 * (h.loop-set.set + 1)), length-drop) (omega arith),
-      rw (part_end a.chain.now (512 * (h.loop-set.set + 2)), length-drop) (omega arith),
+    let a = c.args in (
+      c.requires.2,
+      c.requires.3,
+      rw (part_end a.chain.now (512 * (c.loop-set.set + 1)), length-drop) (omega arith),
+      rw (part_end a.chain.now (512 * (c.loop-set.set + 2)), length-drop) (omega arith),
     )
 
 pub returns-then-not-word_kept : goal.returns-then-not-word_kept
 unfolding words_kept
 returns-then-not-word_kept c =
-    let h = c.before.before.before.before.before in
-    let a = h.args in
-    sym (every_not a.r _ h.loop-set.set (omega arith)
-    (word_turn a.from a.to a.chain.now h.loop-set.set false (sym c.word_kept.ensures ∙ not-true _ c.if-not-word_kept.true-raw)))
+    let a = c.args in
+    sym (every_not a.r _ c.loop-set.set (omega arith)
+    (word_turn a.from a.to a.chain.now c.loop-set.set false (sym c.word_kept.ensures ∙ c.if-not-word_kept.true)))
 
 pub loop-set-preserved : goal.loop-set-preserved
 unfolding words_kept
 loop-set-preserved c =
-    let h = c.before.before.before.before.before in
-    let a = h.args in (
+    let a = c.args in (
       omega arith,
-      every_next h.loop-set.set _ h.loop-set.invariant.1
-          (word_turn a.from a.to a.chain.now h.loop-set.set true (sym c.word_kept.ensures ∙ not-false _ c.if-not-word_kept.false-raw)),
+      every_next c.loop-set.set _ c.loop-set.invariant.1
+          (word_turn a.from a.to a.chain.now c.loop-set.set true (sym c.word_kept.ensures ∙ c.if-not-word_kept.false)),
     )
 
 pub returns : goal.returns
 returns c =
-    let h = c.before in
-    let a = h.args in
-    let e : h.loop-set.set ≡ a.r = omega arith in
-    sym h.loop-set.invariant.1 ∙ ap (λ (n : ℕ). words_kept a.from a.to n a.chain.now) e
+    let a = c.args in
+    let e : c.loop-set.set ≡ a.r = omega arith in
+    sym c.loop-set.invariant.1 ∙ ap (λ (n : ℕ). words_kept a.from a.to n a.chain.now) e

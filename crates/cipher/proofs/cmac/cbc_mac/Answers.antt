@@ -27,35 +27,33 @@ loop-q-init c = (omega arith, c.loop-k.invariant.1, refl)
 
 pub loop-q-preserved : goal.loop-q-preserved
 loop-q-preserved c =
-    let h = c.before.before.before.before.before.before in
-    let rows = h.args.rows in
-    let q = h.loop-q.q in (
+    let rows = c.args.rows in
+    let q = c.loop-q.q in (
       omega arith,
-      h.loop-q.invariant.1,
+      c.loop-q.invariant.1,
       c.four_rounds-z.ensures
           ∙ ap
           (λ (y : List ℕ).
           L.round (get_or rows (4 * q + 3) []) (L.round (get_or rows (4 * q + 2) []) (L.round (get_or rows (4 * q + 1) []) (L.round (get_or rows (4 * q) []) y))))
-          h.loop-q.invariant.2
+          c.loop-q.invariant.2
           ∙ sym (forward_four rows q _),
     )
 
 pub loop-k-preserved : goal.loop-k-preserved
 loop-k-preserved c =
-    let h = c.before.before.before.before.before.before in
-    let a = h.args in
-    let rows = a.t1 in
+    let a = c.args in
+    let rows = a.rows in
     let text = a.text.now in
-    let k = h.loop-k.k in
-    let r = 4 * (h.rounds-fours.result / 4) in
+    let k = c.loop-k.k in
+    let r = 4 * (c.rounds-fours.result / 4) in
     let whole : 4 * c.loop-q.q ≡ r = omega arith in
-    let low : Bytes text = bytes_of_lem text (λ j b. omega (arith, h.shared_slice_known-1.given j)) in (
+    let low : Bytes text = bytes_of_lem text (λ j b. omega (arith, c.shared_slice_known-1.given j)) in (
       omega arith,
-      h.loop-k.invariant.1,
-      mac_turn rows r (C.cbc_mac (L.first_rounds rows r) zeros (cut k text)) (drop (16 * k) text) h.loop-k.x c.words.result c.loop-q.y
+      c.loop-k.invariant.1,
+      mac_turn rows r (C.cbc_mac (L.first_rounds rows r) zeros (cut k text)) (drop (16 * k) text) c.loop-k.x c.words.result c.loop-q.y
           (mac_block rows r zeros (cut k text) block_zeros)
           (bytes_drop (16 * k) text low)
-          h.loop-k.invariant.2
+          c.loop-k.invariant.2
           (c.words.ensures ∙ ap words4 (part_end text (16 * k)))
           (c.loop-q.invariant.2 ∙ (λ i. L.forward rows (whole i) (c.xor-y.ensures i)))
           ∙ ap words4 (sym (mac_more (L.first_rounds rows r) zeros text k)),
@@ -63,8 +61,7 @@ loop-k-preserved c =
 
 pub returns : goal.returns
 returns c =
-    let h = c.before in
-    let a = h.args in
-    let all : h.loop-k.k ≡ a.n = omega arith in
-    let r = ap (λ (n : ℕ). 4 * (n / 4)) h.rounds-fours.ensures ∙ rounds_fours a.size in
-    h.loop-k.invariant.2 ∙ (λ i. words4 (C.cbc_mac (L.first_rounds a.t1 (r i)) zeros (cut (all i) a.text.now)))
+    let a = c.args in
+    let all : c.loop-k.k ≡ a.n = omega arith in
+    let r = ap (λ (n : ℕ). 4 * (n / 4)) c.rounds-fours.ensures ∙ rounds_fours a.size in
+    c.loop-k.invariant.2 ∙ (λ i. words4 (C.cbc_mac (L.first_rounds a.rows (r i)) zeros (cut (all i) a.text.now)))

@@ -11,17 +11,14 @@ loop-k-init c = (omega arith, refl)
 
 pub loop-k-preserved : goal.loop-k-preserved
 loop-k-preserved c =
-    let h = c.before.before in
-    (omega arith, fill_turn (rule h.args.b) 16 h.loop-k.d h.loop-k.k c.shifted.result h.loop-k.invariant.1 c.shifted.ensures (omega arith))
+    (omega arith, fill_turn (rule c.args.b) 16 c.loop-k.d c.loop-k.k c.shifted.result c.loop-k.invariant.1 c.shifted.ensures (omega arith))
 
 pub returns-then-b-ge128 : goal.returns-then-b-ge128
 returns-then-b-ge128 c =
-    let h = c.before.before.before in
-    let e : h.loop-k.k ≡ 15 = omega arith in
-    double_high h.args.b h.loop-k.d (rw e at h.loop-k.invariant.1) c.shifted-last.result c.shifted-last.ensures (omega arith)
+    let e : c.loop-k.k ≡ 15 = omega arith in
+    double_high c.args.b c.loop-k.d (rw e at c.loop-k.invariant.1) c.shifted-last.result c.shifted-last.ensures (omega arith)
 
 pub returns-else-b-ge128 : goal.returns-else-b-ge128
 returns-else-b-ge128 c =
-    let h = c.before.before.before in
-    let e : h.loop-k.k ≡ 15 = omega arith in
-    double_low h.args.b h.loop-k.d (rw e at h.loop-k.invariant.1) c.shifted-last.result c.shifted-last.ensures (omega arith)
+    let e : c.loop-k.k ≡ 15 = omega arith in
+    double_low c.args.b c.loop-k.d (rw e at c.loop-k.invariant.1) c.shifted-last.result c.shifted-last.ensures (omega arith)

@@ -8,8 +8,7 @@ use Rattle.cipher.proofs.image.image_row.Goals as goal
 
 pub overflow_mul-high : goal.overflow_mul-high
 overflow_mul-high c =
-    let s = c.before in
-    omega (arith, s.requires.3 (32 * s.args.k + 16 + s.args.h) (omega arith))
+    omega (arith, c.requires.3 (32 * c.args.k + 16 + c.args.h) (omega arith))
 
 pub loop-l-init : goal.loop-l-init
 unfolding tab
@@ -17,18 +16,14 @@ loop-l-init c = (omega arith, refl, refl)
 
 pub overflow_add-out-in-loop-l : goal.overflow_add-out-in-loop-l
 overflow_add-out-in-loop-l c =
-    let l = c.before.before in
-    let s = l.before.before in
-    omega (arith, s.requires.3 (32 * s.args.k + l.loop-l.l) (omega arith), s.requires.3 (32 * s.args.k + 16 + s.args.h) (omega arith))
+    omega (arith, c.requires.3 (32 * c.args.k + c.loop-l.l) (omega arith), c.requires.3 (32 * c.args.k + 16 + c.args.h) (omega arith))
 
 pub loop-l-preserved : goal.loop-l-preserved
 loop-l-preserved c =
-    let l = c.before.before in
-    let s = l.before.before in
-    let a = s.args in (
+    let a = c.args in (
       omega arith,
-      simp length-set l.loop-l.invariant.1,
-      tab_turn (λ i. byte_coded a.set.now a.k (16 * a.h + i)) _ _ _ _ l.loop-l.invariant.2 (image_is a.set.now a.k a.h l.loop-l.l s.requires.1 (omega arith)) (omega arith),
+      simp length-set c.loop-l.invariant.1,
+      tab_turn (λ i. byte_coded a.set.now a.k (16 * a.h + i)) _ _ _ _ c.loop-l.invariant.2 (image_is a.set.now a.k a.h c.loop-l.l c.requires.1 (omega arith)) (omega arith),
     )
 
 pub shape_of-out : goal.shape_of-out

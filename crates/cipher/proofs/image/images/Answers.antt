@@ -14,20 +14,16 @@ loop-r-init c = (omega arith, refl, refl, refl)
 
 pub image_row-requires : goal.image_row-requires
 image_row-requires c =
-    let s = c.before.before in
-    let e = s.before.before.before in
-    (omega arith, omega arith, e.requires.0, e.requires.1, length_part _ s.loop-r.a 16 (omega arith))
+    (omega arith, omega arith, c.requires.0, c.requires.1, length_part _ c.loop-r.a 16 (omega arith))
 
 pub loop-r-preserved : goal.loop-r-preserved
 loop-r-preserved c =
-    let call = c.before.before in
-    let s = call.before.before.before in
-    let u = s.args.set.now in (
+    let u = c.args.set.now in (
       omega arith,
       omega arith,
-      same_len_mid s.loop-r.a (s.loop-r.a + 16 - s.loop-r.a) s.loop-r.out call.image_row.new.1.1.1.0 call.image_row.auto.1.1.1.0 ∙ s.loop-r.invariant.2,
+      same_len_mid c.loop-r.a (c.loop-r.a + 16 - c.loop-r.a) c.loop-r.out c.image_row.new.out c.image_row.auto.out ∙ c.loop-r.invariant.2,
       chunks_turn (λ i. tab 16 (λ l. byte_coded u (i / 16) (16 * (i % 16) + l))) 16 (λ i. length_tab 16 (λ l. byte_coded u (i / 16) (16 * (i % 16) + l)))
-          _ _ _ _ _ s.loop-r.invariant.3 s.loop-r.invariant.1 call.image_row.ensures,
+          _ _ _ _ _ c.loop-r.invariant.3 c.loop-r.invariant.1 c.image_row.ensures,
     )
 
 pub shape_of-out : goal.shape_of-out

@@ -14,11 +14,10 @@ bounds-images-k c = omega (arith, c.wide.ensures.1)
 
 pub loop-k-preserved : goal.loop-k-preserved
 loop-k-preserved c =
-    let l = c.before.before.before.before in
-    let a = l.args in (
+    let a = c.args in (
       omega arith,
-      simp length-set l.loop-k.invariant.1,
-      tab_turn (λ i. image_at a.images.now i (get_or a.block.now i 0)) _ _ _ _ l.loop-k.invariant.2 (ap (image_at a.images.now l.loop-k.k) c.wide.ensures.0) (omega arith),
+      simp length-set c.loop-k.invariant.1,
+      tab_turn (λ i. image_at a.images.now i (get_or a.block.now i 0)) _ _ _ _ c.loop-k.invariant.2 (ap (image_at a.images.now c.loop-k.k) c.wide.ensures.0) (omega arith),
     )
 
 pub shape_of-out : goal.shape_of-out

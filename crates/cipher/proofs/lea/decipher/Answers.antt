@@ -7,35 +7,30 @@ use Rattle.cipher.proofs.KeySizeLaws.{found_length}
 use Rattle.cipher.proofs.AnswerLaws.{on_schedule, on_key, on_length, on_rows}
 use Rattle.cipher.proofs.lea.decipher.Goals as goal
 
--- the parameters, seen from the size that was found for the key
-abbrev given : goal.In-Found-2 → goal.Start
-given c = c.before.before.before.before.before.before.before.before.before
-
-known : (c : goal.In-Found-2) → Named (given c).args.schedule (given c).args.key.now c.in-Numbered.named c.in-Found.size
-known c =
-    let n = c.before.before.before.before in
-    (sym n.of_number.ensures ∙ n.in-Numbered.is, sym c.of_key_len.ensures ∙ c.in-Found.is)
-
 pub returns-in_default : goal.returns-in_default
 returns-in_default c = c.refused.ensures ∙ sym (on_schedule _ _ _ _ (sym c.of_number.ensures ∙ c.in_default.is))
 
 pub returns-in_default-of_key_len : goal.returns-in_default-of_key_len
 returns-in_default-of_key_len c =
-    let k = c.before.before.before in
-    let n = k.before.before in
     c.refused-in_default-of_key_len.ensures
-    ∙ sym (on_key _ _ _ _ _ (sym n.of_number.ensures ∙ n.in-Numbered.is) (sym k.of_key_len.ensures ∙ c.in_default-of_key_len.is))
+    ∙ sym (on_key _ _ _ _ _ (sym c.of_number.ensures ∙ c.in-Numbered.is) (sym c.of_key_len.ensures ∙ c.in_default-of_key_len.is))
 
 pub returns-then-block-ne-BLOCK : goal.returns-then-block-ne-BLOCK
-returns-then-block-ne-BLOCK c = c.refused-then-block-ne-BLOCK.ensures ∙ sym (on_length _ _ _ _ _ _ (known c.before.before.before) c.if-block-ne-BLOCK.true)
+returns-then-block-ne-BLOCK c =
+    let known : Named c.args.schedule c.args.key.now c.in-Numbered.named c.in-Found.size =
+    (sym c.of_number.ensures ∙ c.in-Numbered.is, sym c.of_key_len.ensures ∙ c.in-Found.is) in
+    c.refused-then-block-ne-BLOCK.ensures ∙ sym (on_length _ _ _ _ _ _ known c.if-block-ne-BLOCK.true)
 
 pub key_rows-rows-requires : goal.key_rows-rows-requires
-key_rows-rows-requires c = found_length key_length _ _ (known c.before.before).1
+key_rows-rows-requires c =
+    let known : Named c.args.schedule c.args.key.now c.in-Numbered.named c.in-Found.size =
+    (sym c.of_number.ensures ∙ c.in-Numbered.is, sym c.of_key_len.ensures ∙ c.in-Found.is) in
+    found_length key_length _ _ known.1
 
 pub returns : goal.returns
 unfolding L.undone_rounds
 returns c =
-    let r = c.before.before.before in
-    let s = r.before.before.before in
-    on_rows L.backward rounds _ _ _ _ _ (known s) r.if-block-ne-BLOCK.false _ _ _ _ _ c.done.ensures c.decipher.ensures r.key_rows-rows.ensures
+    let known : Named c.args.schedule c.args.key.now c.in-Numbered.named c.in-Found.size =
+    (sym c.of_number.ensures ∙ c.in-Numbered.is, sym c.of_key_len.ensures ∙ c.in-Found.is) in
+    on_rows L.backward rounds _ _ _ _ _ known c.if-block-ne-BLOCK.false _ _ _ _ _ c.done.ensures c.decipher.ensures c.key_rows-rows.ensures
     c.words.ensures refl

@@ -14,34 +14,25 @@ use Rattle.cipher.proofs.lea.round_keys.Goals as goal
 abbrev row_of : List ℕ → ℕ → Schedule → KeySize → ℕ × List ℕ
 row_of key l k z = (0, get_or (key_rows k z key) (l % rounds z) [])
 
--- the parameters, seen from the size that was found for the key
-abbrev given : goal.In-Found-2 → goal.Start
-given c = c.before.before.before.before.before.before.before.before
-
-known : (c : goal.In-Found-2) → Named (given c).args.schedule (given c).args.key.now c.in-Numbered.named c.in-Found.size
-known c =
-    let n = c.before.before.before.before in
-    (sym n.of_number.ensures ∙ n.in-Numbered.is, sym c.of_key_len.ensures ∙ c.in-Found.is)
-
 pub returns-in_default : goal.returns-in_default
 returns-in_default c =
-    let n = c.before.before.before in
-    let a = n.args in
+    let a = c.args in
     c.no_row.ensures
-    ∙ sym (schedule_refused a.schedule a.key.now (λ k z. []) (λ n. (n, blank)) (row_of a.key.now a.l)
-    (sym n.of_number.ensures ∙ c.in_default.is))
+    ∙ sym (schedule_refused a.schedule a.key.now (λ k z. []) (λ c. (c, blank)) (row_of a.key.now a.l)
+    (sym c.of_number.ensures ∙ c.in_default.is))
 
 pub returns-in_default-of_key_len : goal.returns-in_default-of_key_len
 returns-in_default-of_key_len c =
-    let k = c.before.before.before in
-    let n = k.before.before in
-    let a = n.args in
+    let a = c.args in
     c.no_row-in_default-of_key_len.ensures
-    ∙ sym (key_refused a.schedule a.key.now (λ k z. []) (λ n. (n, blank)) (row_of a.key.now a.l) _
-    (sym n.of_number.ensures ∙ n.in-Numbered.is) (sym k.of_key_len.ensures ∙ c.in_default-of_key_len.is))
+    ∙ sym (key_refused a.schedule a.key.now (λ c z. []) (λ c. (c, blank)) (row_of a.key.now a.l) _
+    (sym c.of_number.ensures ∙ c.in-Numbered.is) (sym c.of_key_len.ensures ∙ c.in_default-of_key_len.is))
 
 pub key_rows-rows-requires : goal.key_rows-rows-requires
-key_rows-rows-requires c = found_length key_length _ _ (known c.before).1
+key_rows-rows-requires c =
+    let known : Named c.args.schedule c.args.key.now c.in-Numbered.named c.in-Found.size =
+    (sym c.of_number.ensures ∙ c.in-Numbered.is, sym c.of_key_len.ensures ∙ c.in-Found.is) in
+    found_length key_length _ _ known.1
 
 pub nonzero_rem-row : goal.nonzero_rem-row
 nonzero_rem-row c = omega (arith, rounds_more c.in-Found.size)
@@ -50,18 +41,19 @@ pub offset_bounds-rows-l : goal.offset_bounds-rows-l
 offset_bounds-rows-l c =
     let z = c.in-Found.size in
     let h : 0 < c.rounds.result = omega (arith, rounds_more z) in
-    omega (arith, rounds_le z, mod-lt (given c.before.before.before).args.l h)
+    omega (arith, rounds_le z, mod-lt c.args.l h)
 
 pub bounds-rows-l : goal.bounds-rows-l
 bounds-rows-l c =
     let z = c.in-Found.size in
     let h : 0 < c.rounds.result = omega (arith, rounds_more z) in
-    omega (arith, rounds_le z, mod-lt (given c.before.before.before).args.l h)
+    omega (arith, rounds_le z, mod-lt c.args.l h)
 
 pub returns : goal.returns
 unfolding first
 returns c =
-    let s = c.before.before.before.before in
-    let a = (given s).args in
+    let known : Named c.args.schedule c.args.key.now c.in-Numbered.named c.in-Found.size =
+    (sym c.of_number.ensures ∙ c.in-Numbered.is, sym c.of_key_len.ensures ∙ c.in-Found.is) in
+    let a = c.args in
     (λ i. (0, get_or (c.key_rows-rows.ensures i) (a.l % c.rounds.ensures i) []))
-    ∙ sym (key_taken a.schedule a.key.now (λ k z. []) (λ n. (n, blank)) (row_of a.key.now a.l) _ _ (known s))
+    ∙ sym (key_taken a.schedule a.key.now (λ k z. []) (λ n. (n, blank)) (row_of a.key.now a.l) _ _ known)

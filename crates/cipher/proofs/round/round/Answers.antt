@@ -7,11 +7,9 @@ use Rattle.cipher.proofs.round.round.Goals as goal
 pub returns : goal.returns
 unfolding round
 returns c =
-    let b = c.before.before in
-    let d = b.before.before in
-    let x = d.args.x in
+    let x = c.args.x in
     let ea = c.rotate_left-a.ensures ∙ ap (rol 9) c.keyed-3.ensures in
-    let eb = b.rotate_right-b.ensures ∙ ap (ror 5) b.keyed-2.ensures in
-    let ec = d.rotate_right-c.ensures ∙ ap (ror 3) d.keyed.ensures in
+    let eb = c.rotate_right-b.ensures ∙ ap (ror 5) c.keyed-2.ensures in
+    let ec = c.rotate_right-c.ensures ∙ ap (ror 3) c.keyed.ensures in
     λ i.
     ea i ∷ eb i ∷ ec i ∷ get_or x 0 0 ∷ []

@@ -10,24 +10,22 @@ loop-q-init c = (omega arith, omega (arith, rounds_le c.args.size), refl)
 
 pub loop-q-preserved : goal.loop-q-preserved
 loop-q-preserved c =
-    let h = c.before.before.before.before.before.before in
-    let rows = h.args.rows in
-    let q = h.loop-q.q - 1 in
-    let e : q + 1 ≡ h.loop-q.q = omega arith in (
+    let rows = c.args.rows in
+    let q = c.loop-q.q - 1 in
+    let e : q + 1 ≡ c.loop-q.q = omega arith in (
       omega arith,
-      h.loop-q.invariant.1,
+      c.loop-q.invariant.1,
       ap (L.backward rows (4 * q)) c.four_unrounds-y.ensures
           ∙ sym (backward_four rows q _)
-          ∙ ap (λ (n : ℕ). L.backward rows (4 * n) h.loop-q.x) e
-          ∙ h.loop-q.invariant.2,
+          ∙ ap (λ (n : ℕ). L.backward rows (4 * n) c.loop-q.x) e
+          ∙ c.loop-q.invariant.2,
     )
 
 pub returns : goal.returns
 unfolding L.backward
 returns c =
-    let h = c.before in
-    let a = h.args in
-    let e : 0 ≡ 4 * h.loop-q.q = omega arith in
-    ap (λ (n : ℕ). L.backward a.t1 n h.loop-q.x) e
-    ∙ h.loop-q.invariant.2
-    ∙ ap (λ (n : ℕ). L.backward a.t1 n a.block) (ap (λ (n : ℕ). 4 * (n / 4)) h.rounds-q.ensures ∙ rounds_fours a.size)
+    let a = c.args in
+    let e : 0 ≡ 4 * c.loop-q.q = omega arith in
+    ap (λ (n : ℕ). L.backward a.rows n c.loop-q.x) e
+    ∙ c.loop-q.invariant.2
+    ∙ ap (λ (n : ℕ). L.backward a.rows n a.block) (ap (λ (n : ℕ). 4 * (n / 4)) c.rounds-q.ensures ∙ rounds_fours a.size)

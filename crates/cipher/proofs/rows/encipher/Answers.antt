@@ -11,23 +11,21 @@ loop-q-init c = (omega arith, omega (arith, rounds_le c.args.size), refl)
 
 pub loop-q-preserved : goal.loop-q-preserved
 loop-q-preserved c =
-    let h = c.before.before.before.before.before.before in
-    let rows = h.args.rows in
-    let q = h.loop-q.q in (
+    let rows = c.args.rows in
+    let q = c.loop-q.q in (
       omega arith,
-      h.loop-q.invariant.1,
+      c.loop-q.invariant.1,
       c.four_rounds-y.ensures
           ∙ ap
           (λ (y : List ℕ).
           L.round (get_or rows (4 * q + 3) []) (L.round (get_or rows (4 * q + 2) []) (L.round (get_or rows (4 * q + 1) []) (L.round (get_or rows (4 * q) []) y))))
-          h.loop-q.invariant.2
+          c.loop-q.invariant.2
           ∙ sym (forward_four rows q _),
     )
 
 pub returns : goal.returns
 returns c =
-    let h = c.before in
-    let a = h.args in
-    let e : 4 * h.loop-q.q ≡ 4 * (h.rounds-q-end.result / 4) = omega arith in
-    h.loop-q.invariant.2
-    ∙ ap (λ (n : ℕ). L.forward a.t1 n a.block) (e ∙ ap (λ (n : ℕ). 4 * (n / 4)) h.rounds-q-end.ensures ∙ rounds_fours a.size)
+    let a = c.args in
+    let e : 4 * c.loop-q.q ≡ 4 * (c.rounds-q-end.result / 4) = omega arith in
+    c.loop-q.invariant.2
+    ∙ ap (λ (n : ℕ). L.forward a.rows n a.block) (e ∙ ap (λ (n : ℕ). 4 * (n / 4)) c.rounds-q-end.ensures ∙ rounds_fours a.size)

@@ -13,7 +13,6 @@ loop-i-preserved c = (omega arith, c.round-y.ensures ∙ ap (L.round _) c.loop-i
 
 pub returns : goal.returns
 returns c =
-    let h = c.before in
-    let a = h.args in
-    let e : h.loop-i.i ≡ a.n = omega arith in
-    h.loop-i.invariant.1 ∙ ap (λ (n : ℕ). L.forward a.t1 n a.block) e
+    let a = c.args in
+    let e : c.loop-i.i ≡ a.n = omega arith in
+    c.loop-i.invariant.1 ∙ ap (λ (n : ℕ). L.forward a.rows n a.block) e

@@ -8,8 +8,7 @@ use Rattle.cipher.proofs.schedules.key_rows.Goals as goal
 
 pub rows-requires : goal.rows-requires
 rows-requires c =
-    let s = c.before.before.before.before in
-    (omega (arith, s.requires, key_le s.args.size), omega (arith, c.rounds.ensures, rounds_le s.args.size))
+    (omega (arith, c.requires, key_le c.args.size), omega (arith, c.rounds.ensures, rounds_le c.args.size))
 
 pub returns-in-Lea : goal.returns-in-Lea
 unfolding key_rows
@@ -20,7 +19,6 @@ returns-in-Lea c =
 pub returns-in-WfLea : goal.returns-in-WfLea
 unfolding key_rows
 returns-in-WfLea c =
-    let r = c.before in
-    let a = r.args in
-    c.rows.ensures ∙ ap (rows a.key.now) r.rounds.ensures
-    ∙ sym (ap (λ (k : Schedule). key_rows k a.size a.key.now) r.in-WfLea.is)
+    let a = c.args in
+    c.rows.ensures ∙ ap (rows a.key.now) c.rounds.ensures
+    ∙ sym (ap (λ (k : Schedule). key_rows k a.size a.key.now) c.in-WfLea.is)

@@ -11,26 +11,20 @@ pub loop-k-init : goal.loop-k-init
 loop-k-init c = (omega arith, refl)
 
 pub draw_number-d-requires : goal.draw_number-d-requires
-draw_number-d-requires c =
-    let l = c.before in
-    let e = l.before.before.before in (
-      omega (arith, l.loop-k.invariant.0),
-      e.requires.0,
-      omega (arith, l.loop-k.invariant.1, e.requires.1, near 15 (shuffle_draws 15) (within_shuffle 15) e.args.random.now e.args.start),
-    )
+draw_number-d-requires c = (
+  omega (arith, c.loop-k.invariant.0),
+  c.requires.0,
+  omega (arith, c.loop-k.invariant.1, c.requires.1, near 15 (shuffle_draws 15) (within_shuffle 15) c.args.random.now c.args.start),
+)
 
 pub loop-k-preserved : goal.loop-k-preserved
-loop-k-preserved c =
-    let l = c.before.before in
-    let e = l.before.before.before in (
-      omega (arith, l.loop-k.invariant.0),
-      draws_turn e.args.random.now l.loop-k.k l.loop-k.at c.draw_number-d.result.at (omega (arith, c.loop-k-test.true))
-          c.draw_number-d.ensures.1 _ l.loop-k.invariant.1,
-    )
+loop-k-preserved c = (
+  omega (arith, c.loop-k.invariant.0),
+  draws_turn c.args.random.now c.loop-k.k c.loop-k.at c.draw_number-d.result.at (omega (arith, c.loop-k-test.true))
+      c.draw_number-d.ensures.1 _ c.loop-k.invariant.1,
+)
 
 pub returns : goal.returns
 unfolding coding_draws
 returns c =
-    let l = c.before in
-    let e = l.before.before.before in
-    omega (arith, l.loop-k.invariant.1, no_draws l.loop-k.k (drop l.loop-k.at e.args.random.now) (omega arith))
+    omega (arith, c.loop-k.invariant.1, no_draws c.loop-k.k (drop c.loop-k.at c.args.random.now) (omega arith))

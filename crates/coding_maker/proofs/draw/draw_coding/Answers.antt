@@ -16,65 +16,51 @@ unshuffle-requires c = c.requires.2
 pub loop-place-init : goal.loop-place-init
 loop-place-init c =
     let u = c.unshuffle in
-    let e = c.before.before.before.before.before.before.before in
-    (omega arith, ap length u.ensures ∙ unshuffled_coding.size, ap (λ (x : List ℕ). shuffled 15 x (drop e.args.start e.args.random.now)) u.ensures, refl)
+    (omega arith, ap length u.ensures ∙ unshuffled_coding.size, ap (λ (x : List ℕ). shuffled 15 x (drop c.args.start c.args.random.now)) u.ensures, refl)
 
 pub draw_number-d-requires : goal.draw_number-d-requires
-draw_number-d-requires c =
-    let l = c.before in
-    let e = l.before.before.before.before.before.before.before.before in (
-      omega (arith, l.loop-place.invariant.0),
-      e.requires.0,
-      omega (arith, l.loop-place.invariant.3, e.requires.1, near 15 (shuffle_draws 15) (within_shuffle 15) e.args.random.now e.args.start),
-    )
-
--- what a place changes contents with is not behind it
-low : (c : goal.After-draw_number-d) → c.draw_number-d.result.number < c.loop-place.place + 1
-low c =
-    let l = c.before.before in
-    let e = l.before.before.before.before.before.before.before.before in
-    omega (arith, c.draw_number-d.ensures.0, chosen_lt l.loop-place.place (drop l.loop-place.at e.args.random.now))
+draw_number-d-requires c = (
+  omega (arith, c.loop-place.invariant.0),
+  c.requires.0,
+  omega (arith, c.loop-place.invariant.3, c.requires.1, near 15 (shuffle_draws 15) (within_shuffle 15) c.args.random.now c.args.start),
+)
 
 pub bounds-out-place : goal.bounds-out-place
-bounds-out-place c = let l = c.before.before.before in omega (arith, l.loop-place.invariant.0, l.loop-place.invariant.1)
+bounds-out-place c = omega (arith, c.loop-place.invariant.0, c.loop-place.invariant.1)
 
 pub bounds-out-other : goal.bounds-out-other
-bounds-out-other c = let l = c.before.before.before.before in omega (arith, low c.before.before, l.loop-place.invariant.0, l.loop-place.invariant.1)
+bounds-out-other c =
+    let low : c.draw_number-d.result.number < c.loop-place.place + 1 =
+    omega (arith, c.draw_number-d.ensures.0, chosen_lt c.loop-place.place (drop c.loop-place.at c.args.random.now)) in
+    omega (arith, low, c.loop-place.invariant.0, c.loop-place.invariant.1)
 
 pub bounds-out-place-in-loop-place : goal.bounds-out-place-in-loop-place
-bounds-out-place-in-loop-place c = let l = c.before.before.before.before in omega (arith, l.loop-place.invariant.0, l.loop-place.invariant.1)
+bounds-out-place-in-loop-place c = omega (arith, c.loop-place.invariant.0, c.loop-place.invariant.1)
 
 pub bounds-out-other-in-loop-place : goal.bounds-out-other-in-loop-place
 bounds-out-other-in-loop-place c =
-    let d = c.before.before in
-    let l = d.before.before in
-    let b : d.draw_number-d.result.number < length l.loop-place.out = omega (arith, low d, l.loop-place.invariant.0, l.loop-place.invariant.1) in
+    let low : c.draw_number-d.result.number < c.loop-place.place + 1 =
+    omega (arith, c.draw_number-d.ensures.0, chosen_lt c.loop-place.place (drop c.loop-place.at c.args.random.now)) in
+    let b : c.draw_number-d.result.number < length c.loop-place.out = omega (arith, low, c.loop-place.invariant.0, c.loop-place.invariant.1) in
     simp length-set b
 
 pub loop-place-preserved : goal.loop-place-preserved
 loop-place-preserved c =
-    let d = c.before.before in
-    let l = d.before.before in
-    let e = l.before.before.before.before.before.before.before.before in
-    let s = e.args.random.now in (
-      omega (arith, l.loop-place.invariant.0),
-      simp length-set l.loop-place.invariant.1,
-      shuffle_turn s l.loop-place.place l.loop-place.at d.draw_number-d.result.at (omega (arith, d.loop-place-test.true)) d.draw_number-d.ensures.1
-          l.loop-place.out _ d.draw_number-d.result.number d.draw_number-d.ensures.0 l.loop-place.invariant.2,
-      draws_turn s l.loop-place.place l.loop-place.at d.draw_number-d.result.at (omega (arith, d.loop-place-test.true)) d.draw_number-d.ensures.1 _ l.loop-place.invariant.3,
+    let s = c.args.random.now in (
+      omega (arith, c.loop-place.invariant.0),
+      simp length-set c.loop-place.invariant.1,
+      shuffle_turn s c.loop-place.place c.loop-place.at c.draw_number-d.result.at (omega (arith, c.loop-place-test.true)) c.draw_number-d.ensures.1
+          c.loop-place.out _ c.draw_number-d.result.number c.draw_number-d.ensures.0 c.loop-place.invariant.2,
+      draws_turn s c.loop-place.place c.loop-place.at c.draw_number-d.result.at (omega (arith, c.loop-place-test.true)) c.draw_number-d.ensures.1 _ c.loop-place.invariant.3,
     )
 
 pub shape_of-out : goal.shape_of-out
 shape_of-out c =
-    let l = c.before in
-    let e = l.before.before.before.before.before.before.before.before in
-    l.loop-place.invariant.1 ∙ sym e.requires.2
+    c.loop-place.invariant.1 ∙ sym c.requires.2
 
 pub returns : goal.returns
 unfolding coding_draws coding_from
 returns c =
-    let l = c.before in
-    let e = l.before.before.before.before.before.before.before.before in
-    let s = drop l.loop-place.at e.args.random.now in
-    let z : l.loop-place.place ≡ 0 = omega arith in
-    (omega (arith, l.loop-place.invariant.3, no_draws l.loop-place.place s z), sym (no_shuffle l.loop-place.place l.loop-place.out s z) ∙ l.loop-place.invariant.2)
+    let s = drop c.loop-place.at c.args.random.now in
+    let z : c.loop-place.place ≡ 0 = omega arith in
+    (omega (arith, c.loop-place.invariant.3, no_draws c.loop-place.place s z), sym (no_shuffle c.loop-place.place c.loop-place.out s z) ∙ c.loop-place.invariant.2)

@@ -16,15 +16,14 @@ pub loop-at-init : goal.loop-at-init
 loop-at-init c = refl
 
 pub overflow_mul-number : goal.overflow_mul-number
-overflow_mul-number c = let e = c.before.before.before.before in omega (arith, e.requires.0)
+overflow_mul-number c = omega (arith, c.requires.0)
 
 pub overflow_add-number : goal.overflow_add-number
-overflow_add-number c = let e = c.before.before.before.before.before.before in omega (arith, e.requires.0, c.wide.ensures.1)
+overflow_add-number c = omega (arith, c.requires.0, c.wide.ensures.1)
 
 pub bounds-table-k : goal.bounds-table-k
 bounds-table-k c =
-    let e = c.before.before.before.before.before.before.before in
-    omega (arith, e.requires.0, c.wide.ensures.1, ap length e.requires.1 ∙ length_table)
+    omega (arith, c.requires.0, c.wide.ensures.1, ap length c.requires.1 ∙ length_table)
 
 -- what the byte stands for
 stands : (c : goal.After-shared_slice_known-in-loop-at-2-1)
@@ -40,42 +39,30 @@ overflow_add-result c = omega (arith, c.loop-at-test.true)
 
 pub returns-then-number-lt-SKIPPED : goal.returns-then-number-lt-SKIPPED
 returns-then-number-lt-SKIPPED c =
-    let d = c.before.before in
-    let w = d.before in
-    let l = w.before.before.before in
-    let e = l.before.before.before in
-    let s = e.args.random.now in
-    let k = e.args.k in
-    let n = stands d in
-    let low = stands_low k w.wide.result (omega (arith, n, c.if-number-lt-SKIPPED.true)) in
-    let z = taken_here s k l.loop-at.at w.loop-at-test.true (omega (arith, w.wide.ensures.0, low.0)) in
-    let p : l.loop-at.at ≡ e.args.start + skipped k (drop e.args.start s) = omega (arith, z, l.loop-at.invariant) in
-    (c.wide-then-number-lt-SKIPPED.ensures.0 ∙ n ∙ low.1 ∙ chosen_is s k e.args.start l.loop-at.at p w.wide.result w.wide.ensures.0, omega (arith, p))
+    let s = c.args.random.now in
+    let k = c.args.k in
+    let n = stands c in
+    let low = stands_low k c.wide.result (omega (arith, n, c.if-number-lt-SKIPPED.true)) in
+    let z = taken_here s k c.loop-at.at c.loop-at-test.true (omega (arith, c.wide.ensures.0, low.0)) in
+    let p : c.loop-at.at ≡ c.args.start + skipped k (drop c.args.start s) = omega (arith, z, c.loop-at.invariant) in
+    (c.wide-then-number-lt-SKIPPED.ensures.0 ∙ n ∙ low.1 ∙ chosen_is s k c.args.start c.loop-at.at p c.wide.result c.wide.ensures.0, omega (arith, p))
 
 pub loop-at-preserved : goal.loop-at-preserved
 loop-at-preserved c =
-    let d = c.before in
-    let w = d.before in
-    let l = w.before.before.before in
-    let e = l.before.before.before in
-    let s = e.args.random.now in
-    let k = e.args.k in
-    let high = stands_high k w.wide.result e.requires.0 (omega (arith, stands d, c.if-number-lt-SKIPPED.false)) in
-    let z = taken_later s k l.loop-at.at w.loop-at-test.true (omega (arith, w.wide.ensures.0, high)) in
-    omega (arith, z, l.loop-at.invariant)
+    let s = c.args.random.now in
+    let k = c.args.k in
+    let high = stands_high k c.wide.result c.requires.0 (omega (arith, stands c, c.if-number-lt-SKIPPED.false)) in
+    let z = taken_later s k c.loop-at.at c.loop-at-test.true (omega (arith, c.wide.ensures.0, high)) in
+    omega (arith, z, c.loop-at.invariant)
 
 pub overflow_add-result-2 : goal.overflow_add-result-2
 overflow_add-result-2 c =
-    let l = c.before in
-    let e = l.before.before.before in
-    omega (arith, l.loop-at.invariant, e.requires.2, near 1 (drawn e.args.k) (within_drawn e.args.k) e.args.random.now e.args.start)
+    omega (arith, c.loop-at.invariant, c.requires.2, near 1 (drawn c.args.k) (within_drawn c.args.k) c.args.random.now c.args.start)
 
 pub returns : goal.returns
 returns c =
-    let l = c.before in
-    let e = l.before.before.before in
-    let s = e.args.random.now in
-    let k = e.args.k in
-    let z = taken_end s k l.loop-at.at c.loop-at-test.false in
-    let p : l.loop-at.at ≡ e.args.start + skipped k (drop e.args.start s) = omega (arith, z, l.loop-at.invariant) in
-    (sym (zero-mod (k + 1)) ∙ chosen_is s k e.args.start l.loop-at.at p 0 (sym (get_or-eq_default s 0 c.loop-at-test.false)), omega (arith, p))
+    let s = c.args.random.now in
+    let k = c.args.k in
+    let z = taken_end s k c.loop-at.at c.loop-at-test.false in
+    let p : c.loop-at.at ≡ c.args.start + skipped k (drop c.args.start s) = omega (arith, z, c.loop-at.invariant) in
+    (sym (zero-mod (k + 1)) ∙ chosen_is s k c.args.start c.loop-at.at p 0 (sym (get_or-eq_default s 0 c.loop-at-test.false)), omega (arith, p))

@@ -12,16 +12,15 @@ unfolding tab
 loop-v-init c = (omega arith, refl, refl)
 
 pub loop-v-preserved : goal.loop-v-preserved
-loop-v-preserved c =
-    let l = c.before in (
-      omega arith,
-      simp length-set l.loop-v.invariant.1,
-      tab_turn (λ i. i) _ _ _ _ l.loop-v.invariant.2 refl (omega (arith, l.requires)),
-    )
+loop-v-preserved c = (
+  omega arith,
+  simp length-set c.loop-v.invariant.1,
+  tab_turn (λ i. i) _ _ _ _ c.loop-v.invariant.2 refl (omega (arith, c.requires)),
+)
 
 pub shape_of-out : goal.shape_of-out
 shape_of-out c = c.loop-v.invariant.1
 
 pub returns : goal.returns
 unfolding unshuffled
-returns c = let l = c.before in tab_full (λ i. i) _ _ 16 l.loop-v.v l.loop-v.invariant.2 (omega arith) l.requires
+returns c = tab_full (λ i. i) _ _ 16 c.loop-v.v c.loop-v.invariant.2 (omega arith) c.requires

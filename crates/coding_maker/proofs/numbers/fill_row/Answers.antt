@@ -18,30 +18,24 @@ unfolding tab
 loop-b-init c = (omega arith, refl, refl)
 
 pub remainder-r-requires : goal.remainder-r-requires
-remainder-r-requires c =
-    let l = c.before.before in
-    let e = l.before.before in (
-      e.requires.0,
-      omega arith,
-      l.loop-b.invariant.1 ∙ e.requires.1,
-      λ i h. filled_at (λ n. n % (e.args.k + 1)) e.args.row.now l.loop-b.row l.loop-b.b i l.loop-b.invariant.2 h,
-    )
+remainder-r-requires c = (
+  c.requires.0,
+  omega arith,
+  c.loop-b.invariant.1 ∙ c.requires.1,
+  λ i h. filled_at (λ n. n % (c.args.k + 1)) c.args.row.now c.loop-b.row c.loop-b.b i c.loop-b.invariant.2 h,
+)
 
 pub loop-b-preserved : goal.loop-b-preserved
-loop-b-preserved c =
-    let l = c.before.before.before in
-    let e = l.before.before in (
-      omega arith,
-      simp length-set l.loop-b.invariant.1,
-      tab_turn (λ n. n % (e.args.k + 1)) _ _ _ _ l.loop-b.invariant.2 c.remainder-r.ensures (omega (arith, e.requires.1)),
-    )
+loop-b-preserved c = (
+  omega arith,
+  simp length-set c.loop-b.invariant.1,
+  tab_turn (λ n. n % (c.args.k + 1)) _ _ _ _ c.loop-b.invariant.2 c.remainder-r.ensures (omega (arith, c.requires.1)),
+)
 
 pub shape_of-row : goal.shape_of-row
 shape_of-row c = c.loop-b.invariant.1
 
 pub returns : goal.returns
 returns c =
-    let l = c.before in
-    let e = l.before.before in
-    let d : l.loop-b.b ≡ 256 - 256 % (e.args.k + 1) = omega arith in
-    l.loop-b.invariant.2 ∙ ap (λ (n : ℕ). tab n (λ i. i % (e.args.k + 1)) ++ drop n e.args.row.now) d
+    let d : c.loop-b.b ≡ 256 - 256 % (c.args.k + 1) = omega arith in
+    c.loop-b.invariant.2 ∙ ap (λ (n : ℕ). tab n (λ i. i % (c.args.k + 1)) ++ drop n c.args.row.now) d

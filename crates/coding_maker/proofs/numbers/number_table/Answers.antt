@@ -15,26 +15,23 @@ unfolding chunks
 loop-k-init c = (omega arith, refl, length-replicate {A = ℕ} 4096 16, refl, refl)
 
 pub fill_row-requires : goal.fill_row-requires
-fill_row-requires c = let l = c.before.before in (omega arith, length_part l.loop-k.table l.loop-k.a 256 (omega (arith, l.loop-k.invariant.1, l.loop-k.invariant.2)))
+fill_row-requires c = (omega arith, length_part c.loop-k.table c.loop-k.a 256 (omega (arith, c.loop-k.invariant.1, c.loop-k.invariant.2)))
 
 pub loop-k-preserved : goal.loop-k-preserved
 loop-k-preserved c =
-    let f = c.before in
-    let l = f.before.before.before in
-    let part = take (l.loop-k.a + 256 - l.loop-k.a) (drop l.loop-k.a l.loop-k.table) in
-    let size = length_part l.loop-k.table l.loop-k.a 256 (omega (arith, l.loop-k.invariant.1, l.loop-k.invariant.2)) in
+    let part = take (c.loop-k.a + 256 - c.loop-k.a) (drop c.loop-k.a c.loop-k.table) in
+    let size = length_part c.loop-k.table c.loop-k.a 256 (omega (arith, c.loop-k.invariant.1, c.loop-k.invariant.2)) in
     let row =
-    f.fill_row.ensures
-    ∙ row_is l.loop-k.k part size (blank_part l.loop-k.k l.loop-k.a _ l.loop-k.table l.loop-k.invariant.3 l.loop-k.invariant.4 l.loop-k.invariant.1 (omega arith)) in (
+    c.fill_row.ensures
+    ∙ row_is c.loop-k.k part size (blank_part c.loop-k.k c.loop-k.a _ c.loop-k.table c.loop-k.invariant.3 c.loop-k.invariant.4 c.loop-k.invariant.1 (omega arith)) in (
       omega arith,
-      omega (arith, l.loop-k.invariant.1),
-      same_len_mid l.loop-k.a (l.loop-k.a + 256 - l.loop-k.a) l.loop-k.table f.fill_row.new.1.0 f.fill_row.auto.1.0 ∙ l.loop-k.invariant.2,
-      l.loop-k.invariant.3,
-      chunks_turn number_row 256 length_row _ _ _ _ _ l.loop-k.invariant.4 l.loop-k.invariant.1 row,
+      omega (arith, c.loop-k.invariant.1),
+      same_len_mid c.loop-k.a (c.loop-k.a + 256 - c.loop-k.a) c.loop-k.table c.fill_row.new.row c.fill_row.auto.row ∙ c.loop-k.invariant.2,
+      c.loop-k.invariant.3,
+      chunks_turn number_row 256 length_row _ _ _ _ _ c.loop-k.invariant.4 c.loop-k.invariant.1 row,
     )
 
 pub returns : goal.returns
 unfolding number_table
 returns c =
-    let l = c.before in
-    chunks_full _ _ _ 16 l.loop-k.k l.loop-k.a l.loop-k.invariant.4 (omega arith) (omega (arith, l.loop-k.invariant.1, ap length l.loop-k.invariant.3 ∙ length-replicate {A = ℕ} 4096 16))
+    chunks_full _ _ _ 16 c.loop-k.k c.loop-k.a c.loop-k.invariant.4 (omega arith) (omega (arith, c.loop-k.invariant.1, ap length c.loop-k.invariant.3 ∙ length-replicate {A = ℕ} 4096 16))

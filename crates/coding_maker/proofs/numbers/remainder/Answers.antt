@@ -10,6 +10,5 @@ returns-then-b-k c = let a = c.args in remainder_first a.k a.b (omega (arith, c.
 
 pub returns : goal.returns
 returns c =
-    let e = c.before in
-    let a = e.args in
-    e.requires.3 (a.b - (a.k + 1)) (omega (arith, e.if-b-k.false)) ∙ remainder_again a.k a.b e.if-b-k.false
+    let a = c.args in
+    c.requires.3 (a.b - (a.k + 1)) (omega (arith, c.if-b-k.false)) ∙ remainder_again a.k a.b c.if-b-k.false

@@ -17,13 +17,11 @@ returns-then-block-ne-BLOCK c = c.refused-then-block-ne-BLOCK.ensures ∙ sym (t
 pub step-requires : goal.step-requires
 step-requires c =
     let t = c.if-tables-ne-ROUND_TABLES.false in
-    (omega arith, array_block _ _ c.block_at-y.type-inv)
+    (omega arith, array_block _ _ c.block_at-y.type_inv)
 
 pub returns : goal.returns
 returns c =
-    let k = c.before.before.before in
-    let s = k.before in
-    let a = s.args in
+    let a = c.args in
     c.done.ensures
-    ∙ ap (λ (b : List ℕ). (0, b)) (c.step.ensures ∙ ap (table_round a.tables.now) (k.block_at-y.ensures ∙ whole _ s.if-block-ne-BLOCK.false))
-    ∙ sym (tables_done _ _ s.if-tables-ne-ROUND_TABLES.false s.if-block-ne-BLOCK.false)
+    ∙ ap (λ (b : List ℕ). (0, b)) (c.step.ensures ∙ ap (table_round a.tables.now) (c.block_at-y.ensures ∙ whole _ c.if-block-ne-BLOCK.false))
+    ∙ sym (tables_done _ _ c.if-tables-ne-ROUND_TABLES.false c.if-block-ne-BLOCK.false)

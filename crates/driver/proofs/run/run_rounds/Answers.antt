@@ -15,58 +15,60 @@ use Rattle.driver.proofs.AdmitLaws.{admitted_length, admitted_byte}
 use Rattle.driver.proofs.AnswerLaws.{whole, rounds_no_book, rounds_7, rounds_some, rounds_all}
 use Rattle.driver.proofs.run.run_rounds.Goals as goal
 
--- what admitting the book told
-unread : (c : goal.In-Refused) → admit_answer c.args.book.now ≡ (number_of c.in-Refused.why, Unknown)
-unread c = sym c.admit.ensures ∙ ap admitted_told c.in-Refused.is
-
-admitted : (c : goal.In-Size) → admit_answer c.args.book.now ≡ (0, Found c.in-Size.size)
-admitted c = sym c.admit.ensures ∙ ap admitted_told c.in-Size.is
-
--- the length of the body
-room : (c : goal.After-body-parts) → length c.body-parts.result.now ≡ body_length c.in-Size.size
-room c = ap length c.body-parts.ensures ∙ admitted_length _ _ (admitted c.before.before)
-
 pub returns-in-Refused : goal.returns-in-Refused
-returns-in-Refused c = c.refused.ensures ∙ sym (rounds_no_book _ _ _ c.in-Refused.why (unread c.before))
+returns-in-Refused c =
+    let unread : admit_answer c.args.book.now ≡ (number_of c.in-Refused.why, Unknown) =
+    sym c.admit.ensures ∙ ap admitted_told c.in-Refused.is in
+    c.refused.ensures ∙ sym (rounds_no_book _ _ _ c.in-Refused.why unread)
 
 pub returns-then-block-ne-BLOCK : goal.returns-then-block-ne-BLOCK
-returns-then-block-ne-BLOCK c = c.refused-then-block-ne-BLOCK.ensures ∙ sym (rounds_7 _ _ _ _ (admitted c.before.before) c.if-block-ne-BLOCK.true)
+returns-then-block-ne-BLOCK c =
+    let admitted : admit_answer c.args.book.now ≡ (0, Found c.in-Size.size) =
+    sym c.admit.ensures ∙ ap admitted_told c.in-Size.is in
+    c.refused-then-block-ne-BLOCK.ensures ∙ sym (rounds_7 _ _ _ _ admitted c.if-block-ne-BLOCK.true)
 
 pub body-parts-requires : goal.body-parts-requires
-body-parts-requires c = admitted_byte _ _ (admitted c.before)
+body-parts-requires c =
+    let admitted : admit_answer c.args.book.now ≡ (0, Found c.in-Size.size) =
+    sym c.admit.ensures ∙ ap admitted_told c.in-Size.is in
+    admitted_byte _ _ admitted
 
 pub rounds-requires : goal.rounds-requires
 rounds-requires c =
-    let r = c.before.before in
-    let l = room r.before in
-    omega (arith, r.rounds-all.ensures, rounds_le r.in-Size.size)
+    let admitted : admit_answer c.args.book.now ≡ (0, Found c.in-Size.size) =
+    sym c.admit.ensures ∙ ap admitted_told c.in-Size.is in
+    let room : length c.body-parts.result.now ≡ body_length c.in-Size.size =
+    ap length c.body-parts.ensures ∙ admitted_length _ _ admitted in
+    let l = room in
+    omega (arith, c.rounds-all.ensures, rounds_le c.in-Size.size)
 
 pub returns-then-n-all : goal.returns-then-n-all
 returns-then-n-all c =
-    let k = c.before.before.before in
-    let b = k.before.before in
-    let l = b.if-block-ne-BLOCK.false in
-    let s = b.before.before in
-    let n = s.args.n in
+    let admitted : admit_answer c.args.book.now ≡ (0, Found c.in-Size.size) =
+    sym c.admit.ensures ∙ ap admitted_told c.in-Size.is in
+    let l = c.if-block-ne-BLOCK.false in
+    let n = c.args.n in
     c.done.ensures
     ∙ ap (λ (y : List ℕ). (0, y))
-    (c.rounds.ensures ∙ ap₂ (λ (t y : List ℕ). table_rounds (round_at t) n y) b.body-parts.ensures (k.block_at-first.ensures ∙ whole _ l))
-    ∙ sym (rounds_some _ _ _ _ (admitted s) l (omega (arith, k.rounds-all.ensures)))
+    (c.rounds.ensures ∙ ap₂ (λ (t y : List ℕ). table_rounds (round_at t) n y) c.body-parts.ensures (c.block_at-first.ensures ∙ whole _ l))
+    ∙ sym (rounds_some _ _ _ _ admitted l (omega (arith, c.rounds-all.ensures)))
 
 pub rounds-requires-2 : goal.rounds-requires-2
 rounds-requires-2 c =
-    let r = c.before.before in
-    let l = room r.before in
-    omega (arith, r.rounds-all.ensures, rounds_le r.in-Size.size)
+    let admitted : admit_answer c.args.book.now ≡ (0, Found c.in-Size.size) =
+    sym c.admit.ensures ∙ ap admitted_told c.in-Size.is in
+    let room : length c.body-parts.result.now ≡ body_length c.in-Size.size =
+    ap length c.body-parts.ensures ∙ admitted_length _ _ admitted in
+    let l = room in
+    omega (arith, c.rounds-all.ensures, rounds_le c.in-Size.size)
 
 pub returns : goal.returns
 returns c =
-    let k = c.before.before.before in
-    let r = k.rounds-all.ensures in
-    let b = k.before.before in
-    let l = b.if-block-ne-BLOCK.false in
-    let s = b.before.before in
-    let x = k.block_at-first.ensures ∙ whole _ l in
+    let admitted : admit_answer c.args.book.now ≡ (0, Found c.in-Size.size) =
+    sym c.admit.ensures ∙ ap admitted_told c.in-Size.is in
+    let r = c.rounds-all.ensures in
+    let l = c.if-block-ne-BLOCK.false in
+    let x = c.block_at-first.ensures ∙ whole _ l in
     c.done-2.ensures
-    ∙ ap (λ (y : List ℕ). (0, y)) (c.rounds-2.ensures ∙ (λ i. table_rounds (round_at (b.body-parts.ensures i)) (r i) (x i)))
-    ∙ sym (rounds_all _ _ _ _ (admitted s) l (omega (arith, r)))
+    ∙ ap (λ (y : List ℕ). (0, y)) (c.rounds-2.ensures ∙ (λ i. table_rounds (round_at (c.body-parts.ensures i)) (r i) (x i)))
+    ∙ sym (rounds_all _ _ _ _ admitted l (omega (arith, r)))

@@ -15,9 +15,8 @@ loop-k-init c = (omega arith, refl, refl, refl)
 
 pub loop-k-preserved : goal.loop-k-preserved
 loop-k-preserved c =
-    let h = c.before.before.before.before.before.before.before in
-    let a = h.args in
-    let l = h.loop-k in
+    let a = c.args in
+    let l = c.loop-k in
     let m = c.block_at.ensures in
     let y = c.pass-y.ensures in
     let p = c.put_block in (
@@ -29,7 +28,6 @@ loop-k-preserved c =
 
 pub returns : goal.returns
 returns c =
-    let h = c.before in
-    let a = h.args in
-    let e : h.loop-k.k ≡ a.n = omega arith in
-    h.loop-k.invariant.2 ∙ ap (λ (k : ℕ). done a.body.now a.iv a.coded.now a.out-1.now k ++ drop (16 * k) a.out-1.now) e
+    let a = c.args in
+    let e : c.loop-k.k ≡ a.n = omega arith in
+    c.loop-k.invariant.2 ∙ ap (λ (k : ℕ). done a.body.now a.iv a.coded.now a.out-1.now k ++ drop (16 * k) a.out-1.now) e

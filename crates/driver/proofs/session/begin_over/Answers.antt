@@ -12,25 +12,27 @@ use Rattle.driver.proofs.AdmitLaws.{admitted_length, admitted_byte}
 use Rattle.driver.proofs.AnswerLaws.{over_no_book, over_done}
 use Rattle.driver.proofs.session.begin_over.Goals as goal
 
--- what admitting the book told
-unread : (c : goal.In-Refused) → admit_answer c.args.book.now ≡ (number_of c.in-Refused.why, Unknown)
-unread c = sym c.admit.ensures ∙ ap admitted_told c.in-Refused.is
-
-admitted : (c : goal.In_default) → admit_answer c.args.book.now ≡ (0, Found c.in_default.field-0)
-admitted c = sym c.admit.ensures ∙ ap admitted_told c.in_default.is
-
 pub returns-in-Refused : goal.returns-in-Refused
-returns-in-Refused c = c.kept.ensures ∙ sym (over_no_book _ _ c.in-Refused.why (unread c.before))
+returns-in-Refused c =
+    let unread : admit_answer c.args.book.now ≡ (number_of c.in-Refused.why, Unknown) =
+    sym c.admit.ensures ∙ ap admitted_told c.in-Refused.is in
+    c.kept.ensures ∙ sym (over_no_book _ _ c.in-Refused.why unread)
 
 pub body-requires : goal.body-requires
-body-requires c = admitted_byte _ _ (admitted c)
+body-requires c =
+    let admitted : admit_answer c.args.book.now ≡ (0, Found c.in_default.field-0) =
+    sym c.admit.ensures ∙ ap admitted_told c.in_default.is in
+    admitted_byte _ _ admitted
 
 pub block_at-start-requires : goal.block_at-start-requires
 block_at-start-requires c =
-    let l = ap length c.body.ensures ∙ admitted_length _ _ (admitted c.before) in
+    let admitted : admit_answer c.args.book.now ≡ (0, Found c.in_default.field-0) =
+    sym c.admit.ensures ∙ ap admitted_told c.in_default.is in
+    let l = ap length c.body.ensures ∙ admitted_length _ _ admitted in
     omega arith
 
 pub returns : goal.returns
 returns c =
-    let b = c.before in
-    ap (λ (x : List ℕ). (0, fresh x)) (c.block_at-start.ensures ∙ ap start_of b.body.ensures) ∙ sym (over_done _ _ _ (admitted b.before))
+    let admitted : admit_answer c.args.book.now ≡ (0, Found c.in_default.field-0) =
+    sym c.admit.ensures ∙ ap admitted_told c.in_default.is in
+    ap (λ (x : List ℕ). (0, fresh x)) (c.block_at-start.ensures ∙ ap start_of c.body.ensures) ∙ sym (over_done _ _ _ admitted)

@@ -18,20 +18,9 @@ record_at-seen-requires c = c.loop-seen.invariant.0.room
 
 pub returns-in-Refused : goal.returns-in-Refused
 returns-in-Refused c =
-    let o = c.before.before in
-    let r = o.before.before in
-    let g = r.before.before in
-    let v = g.loop-seen.invariant in
+    let v = c.loop-seen.invariant in
     c.refused.ensures
-    ∙ L.records_refused _ _ _ v.0 _ g.goes_on.ensures r.loop-seen-test.true _ _ _ r.record_at-seen.ensures _ o.in-Refused.is
-
--- the record that was read is one of eight, and in the file
-few : (c : goal.In_default) → c.loop-seen.k < 8
-few c =
-    let r = c.before.before in
-    let g = r.before.before in
-    let v = g.loop-seen.invariant in
-    L.turn_few _ _ _ v.0 _ g.goes_on.ensures r.loop-seen-test.true _ _ _ r.record_at-seen.ensures c.in_default.is
+    ∙ L.records_refused _ _ _ v.0 _ c.goes_on.ensures c.loop-seen-test.true _ _ _ c.record_at-seen.ensures _ c.in-Refused.is
 
 room : (c : goal.In_default)
     → c.loop-seen.at + 6 + c.record_at-seen.result.length ≤ length c.args.file.now
@@ -42,16 +31,28 @@ room c =
     L.turn_room _ _ _ v.0 _ g.goes_on.ensures r.loop-seen-test.true _ _ _ r.record_at-seen.ensures c.in_default.is
 
 pub bounds-kinds-k : goal.bounds-kinds-k
-bounds-kinds-k c = few c
+bounds-kinds-k c =
+    let few : c.loop-seen.k < 8 =
+    let v = c.loop-seen.invariant in
+    L.turn_few _ _ _ v.0 _ c.goes_on.ensures c.loop-seen-test.true _ _ _ c.record_at-seen.ensures c.in_default.is in
+    few
 
 pub overflow_add-offsets : goal.overflow_add-offsets
 overflow_add-offsets c = omega (arith, room c, c.well_formed)
 
 pub bounds-offsets-k : goal.bounds-offsets-k
-bounds-offsets-k c = few c
+bounds-offsets-k c =
+    let few : c.loop-seen.k < 8 =
+    let v = c.loop-seen.invariant in
+    L.turn_few _ _ _ v.0 _ c.goes_on.ensures c.loop-seen-test.true _ _ _ c.record_at-seen.ensures c.in_default.is in
+    few
 
 pub bounds-lengths-k : goal.bounds-lengths-k
-bounds-lengths-k c = few c
+bounds-lengths-k c =
+    let few : c.loop-seen.k < 8 =
+    let v = c.loop-seen.invariant in
+    L.turn_few _ _ _ v.0 _ c.goes_on.ensures c.loop-seen-test.true _ _ _ c.record_at-seen.ensures c.in_default.is in
+    few
 
 pub overflow_add-at : goal.overflow_add-at
 overflow_add-at c = omega (arith, room c, c.well_formed)
@@ -60,25 +61,25 @@ pub overflow_add-at-in-loop-seen : goal.overflow_add-at-in-loop-seen
 overflow_add-at-in-loop-seen c = omega (arith, room c.before, c.well_formed)
 
 pub loop-seen-smaller : goal.loop-seen-smaller
-loop-seen-smaller c = omega (arith, few c.before)
+loop-seen-smaller c =
+    let few : c.loop-seen.k < 8 =
+    let v = c.loop-seen.invariant in
+    L.turn_few _ _ _ v.0 _ c.goes_on.ensures c.loop-seen-test.true _ _ _ c.record_at-seen.ensures c.in_default.is in
+    omega (arith, few)
 
 pub loop-seen-preserved : goal.loop-seen-preserved
 loop-seen-preserved c =
-    let t = c.before in
-    let r = t.before.before in
-    let g = r.before.before in
-    let v = g.loop-seen.invariant in (
-      L.turn_behind _ _ _ v.0 _ g.goes_on.ensures r.loop-seen-test.true _ _ _ r.record_at-seen.ensures t.in_default.is,
-      L.turn_kinds _ _ _ v.0 _ g.goes_on.ensures r.loop-seen-test.true _ _ _ r.record_at-seen.ensures t.in_default.is _ v.1,
-      L.turn_offsets _ _ _ v.0 _ g.goes_on.ensures r.loop-seen-test.true _ _ _ r.record_at-seen.ensures t.in_default.is _ v.2,
-      L.turn_lengths _ _ _ v.0 _ g.goes_on.ensures r.loop-seen-test.true _ _ _ r.record_at-seen.ensures t.in_default.is _ v.3,
+    let v = c.loop-seen.invariant in (
+      L.turn_behind _ _ _ v.0 _ c.goes_on.ensures c.loop-seen-test.true _ _ _ c.record_at-seen.ensures c.in_default.is,
+      L.turn_kinds _ _ _ v.0 _ c.goes_on.ensures c.loop-seen-test.true _ _ _ c.record_at-seen.ensures c.in_default.is _ v.1,
+      L.turn_offsets _ _ _ v.0 _ c.goes_on.ensures c.loop-seen-test.true _ _ _ c.record_at-seen.ensures c.in_default.is _ v.2,
+      L.turn_lengths _ _ _ v.0 _ c.goes_on.ensures c.loop-seen-test.true _ _ _ c.record_at-seen.ensures c.in_default.is _ v.3,
     )
 
 pub returns : goal.returns
 returns c =
-    let g = c.before in
-    let v = g.loop-seen.invariant in
-    L.records_done _ _ _ v.0 (L.records_ended _ _ _ v.0 _ g.goes_on.ensures c.loop-seen-test.false) _ _ _ v.1 v.2 v.3
+    let v = c.loop-seen.invariant in
+    L.records_done _ _ _ v.0 (L.records_ended _ _ _ v.0 _ c.goes_on.ensures c.loop-seen-test.false) _ _ _ v.1 v.2 v.3
 
 pub overflow_sub-file : goal.overflow_sub-file
 overflow_sub-file c = c.loop-seen.invariant.0.room

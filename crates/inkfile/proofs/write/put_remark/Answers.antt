@@ -15,15 +15,11 @@ returns-then-kinds-i c =
 
 pub put_record-requires : goal.put_record-requires
 put_record-requires c =
-    let e = c.before.before in
-    let s = e.before.before.before.before in
-    omega (arith, size_given s.args.kinds.now s.args.i (length s.args.body.now) e.if-kinds-i.false, s.requires)
+    omega (arith, size_given c.args.kinds.now c.args.i (length c.args.body.now) c.if-kinds-i.false, c.requires)
 
 pub returns : goal.returns
 returns c =
-    let r = c.before.before in
-    let e = r.before.before.before in
-    let a = e.args in
-    let v = r.put_record.ensures in
-    let z = size_given a.kinds.now a.i (length a.body.now) e.if-kinds-i.false in
-    (omega (arith, v.0, z), v.1 ∙ ap (overlaid a.out-1.now a.at) (sym (bytes_given _ _ _ e.if-kinds-i.false)))
+    let a = c.args in
+    let v = c.put_record.ensures in
+    let z = size_given a.kinds.now a.i (length a.body.now) c.if-kinds-i.false in
+    (omega (arith, v.0, z), v.1 ∙ ap (overlaid a.out-1.now a.at) (sym (bytes_given _ _ _ c.if-kinds-i.false)))

@@ -26,6 +26,5 @@ loop-i-preserved c =
 
 pub returns : goal.returns
 returns c =
-    let h = c.before in
-    let e : h.loop-i.i ≡ 24 = omega arith in
-    h.loop-i.invariant.3 ∙ ap₂ (λ (n : ℕ) (t : List ℕ). filled step16 row16 n t) e h.words-t.ensures
+    let e : c.loop-i.i ≡ 24 = omega arith in
+    c.loop-i.invariant.3 ∙ ap₂ (λ (n : ℕ) (t : List ℕ). filled step16 row16 n t) e c.words-t.ensures

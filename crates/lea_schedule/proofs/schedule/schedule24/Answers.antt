@@ -22,6 +22,5 @@ loop-i-preserved c =
 
 pub returns : goal.returns
 returns c =
-    let h = c.before in
-    let e : h.loop-i.i ≡ 28 = omega arith in
-    h.loop-i.invariant.3 ∙ ap₂ (λ (n : ℕ) (t : List ℕ). filled step24 row24 n t) e h.words6-t.ensures
+    let e : c.loop-i.i ≡ 28 = omega arith in
+    c.loop-i.invariant.3 ∙ ap₂ (λ (n : ℕ) (t : List ℕ). filled step24 row24 n t) e c.words6-t.ensures

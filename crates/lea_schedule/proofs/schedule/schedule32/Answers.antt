@@ -17,12 +17,11 @@ loop-i-init c =
 pub loop-i-preserved : goal.loop-i-preserved
 unfolding tab words4 words8
 loop-i-preserved c =
-    let m = c.before.before in
-    let h = m.loop-i in
-    let w = m.words8-t in
-    let r = m.mixed_row-r.result in
+    let h = c.loop-i in
+    let w = c.words8-t in
+    let r = c.mixed_row-r.result in
     let s = ap length w.ensures in
-    let e = m.mixed_row-r.ensures ∙ ap (mixed_row (get_or h.d 0 0) 0) m.front.ensures in (
+    let e = c.mixed_row-r.ensures ∙ ap (mixed_row (get_or h.d 0 0) 0) c.front.ensures in (
       omega arith,
       c.turned-e.ensures ∙ deltas_more 7 h.i _ h.d h.invariant.1 refl,
       c.queued-q.ensures ∙ queue_more h.i h.d w.result h.t r s h.invariant.1 h.invariant.2 e,
@@ -31,6 +30,5 @@ loop-i-preserved c =
 
 pub returns : goal.returns
 returns c =
-    let h = c.before in
-    let e : h.loop-i.i ≡ 32 = omega arith in
-    h.loop-i.invariant.3 ∙ ap₂ (λ (n : ℕ) (t : List ℕ). filled step32 row32 n t) e h.words8-t.ensures
+    let e : c.loop-i.i ≡ 32 = omega arith in
+    c.loop-i.invariant.3 ∙ ap₂ (λ (n : ℕ) (t : List ℕ). filled step32 row32 n t) e c.words8-t.ensures

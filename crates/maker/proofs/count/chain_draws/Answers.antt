@@ -10,15 +10,13 @@ use Rattle.maker.proofs.count.chain_draws.Goals as goal
 
 pub rounds_draw-requires : goal.rounds_draw-requires
 rounds_draw-requires c =
-    let e = c.before.before.before.before in
-    let p = planned e.args.rule e.args.set.now in (
-      e.requires.0,
-      e.requires.1,
-      omega (arith, e.requires.1, c.sets_draw-sets.ensures, within_begins 15 (set_use p) (within_set p) (32 * (e.args.r + 2)) e.args.random.now),
+    let p = planned c.args.rule c.args.set.now in (
+      c.requires.0,
+      c.requires.1,
+      omega (arith, c.requires.1, c.sets_draw-sets.ensures, within_begins 15 (set_use p) (within_set p) (32 * (c.args.r + 2)) c.args.random.now),
     )
 
 pub returns : goal.returns
 returns c =
-    let d = c.before in
-    let a = d.args in
-    chain_drawn (planned a.rule a.set.now) a.random.now a.r a.r d.sets_draw-sets.result _ refl d.sets_draw-sets.ensures c.rounds_draw.ensures
+    let a = c.args in
+    chain_drawn (planned a.rule a.set.now) a.random.now a.r a.r c.sets_draw-sets.result _ refl c.sets_draw-sets.ensures c.rounds_draw.ensures

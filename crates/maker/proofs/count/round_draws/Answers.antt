@@ -7,8 +7,7 @@ use Rattle.maker.proofs.count.round_draws.Goals as goal
 
 pub overflow_add-result : goal.overflow_add-result
 overflow_add-result c =
-    let e = c.before.before.before in
-    omega (arith, c.middles_draw.ensures, e.requires.1, near 360 middles_draw within_middles e.args.random.now e.args.start)
+    omega (arith, c.middles_draw.ensures, c.requires.1, near 360 middles_draw within_middles c.args.random.now c.args.start)
 
 pub returns : goal.returns
 returns c =

@@ -13,21 +13,17 @@ loop-l-init c = (omega arith, begins_none round_use _ _)
 
 pub round_draws-at-requires : goal.round_draws-at-requires
 round_draws-at-requires c =
-    let l = c.before in
-    let e = l.before.before.before in
-    let a = e.args in
-    (e.requires.0, omega (arith, e.requires.1, e.requires.2, l.loop-l.invariant.0, begins_near 384 round_use (λ l. within_round) a.random.now a.start l.loop-l.at l.loop-l.l l.loop-l.invariant.1))
+    let a = c.args in
+    (c.requires.0, omega (arith, c.requires.1, c.requires.2, c.loop-l.invariant.0, begins_near 384 round_use (λ c. within_round) a.random.now a.start c.loop-l.at c.loop-l.l c.loop-l.invariant.1))
 
 pub loop-l-preserved : goal.loop-l-preserved
 loop-l-preserved c =
-    let l = c.before.before in
-    let a = l.args in
-    (omega arith, begins_turn round_use a.random.now a.start l.loop-l.at l.loop-l.l l.loop-l.invariant.1 _ c.round_draws-at.ensures)
+    let a = c.args in
+    (omega arith, begins_turn round_use a.random.now a.start c.loop-l.at c.loop-l.l c.loop-l.invariant.1 _ c.round_draws-at.ensures)
 
 pub returns : goal.returns
 unfolding rounds_draw
 returns c =
-    let l = c.before in
-    let a = l.args in
-    let e : l.loop-l.l ≡ a.r = omega arith in
-    l.loop-l.invariant.1 ∙ ap (λ (n : ℕ). a.start + begins round_use n (drop a.start a.random.now)) e
+    let a = c.args in
+    let e : c.loop-l.l ≡ a.r = omega arith in
+    c.loop-l.invariant.1 ∙ ap (λ (n : ℕ). a.start + begins round_use n (drop a.start a.random.now)) e

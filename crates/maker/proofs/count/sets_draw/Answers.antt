@@ -15,20 +15,16 @@ loop-k-init c = (omega arith, refl)
 
 pub set_use-at-requires : goal.set_use-at-requires
 set_use-at-requires c =
-    let l = c.before in
-    let e = l.before.before.before.before in
-    let p = planned e.args.rule e.args.set.now in
-    (e.requires.0, omega (arith, l.loop-k.invariant.0, l.loop-k.invariant.1, e.requires.1, within_begins 15 (set_use p) (within_set p) l.loop-k.k e.args.random.now))
+    let p = planned c.args.rule c.args.set.now in
+    (c.requires.0, omega (arith, c.loop-k.invariant.0, c.loop-k.invariant.1, c.requires.1, within_begins 15 (set_use p) (within_set p) c.loop-k.k c.args.random.now))
 
 pub loop-k-preserved : goal.loop-k-preserved
 loop-k-preserved c =
-    let l = c.before.before in
-    let a = l.args in
-    (omega arith, begins_more (set_use (planned a.rule a.set.now)) a.random.now l.loop-k.at l.loop-k.k _ l.loop-k.invariant.1 c.set_use-at.ensures)
+    let a = c.args in
+    (omega arith, begins_more (set_use (planned a.rule a.set.now)) a.random.now c.loop-k.at c.loop-k.k _ c.loop-k.invariant.1 c.set_use-at.ensures)
 
 pub returns : goal.returns
 returns c =
-    let l = c.before in
-    let a = l.args in
-    let e : l.loop-k.k ≡ a.n = omega arith in
-    l.loop-k.invariant.1 ∙ ap (λ (n : ℕ). begins (set_use (planned a.rule a.set.now)) n a.random.now) e
+    let a = c.args in
+    let e : c.loop-k.k ≡ a.n = omega arith in
+    c.loop-k.invariant.1 ∙ ap (λ (n : ℕ). begins (set_use (planned a.rule a.set.now)) n a.random.now) e

@@ -14,14 +14,12 @@ loop-k-init c = (omega arith, refl, refl)
 
 pub loop-k-preserved : goal.loop-k-preserved
 loop-k-preserved c =
-    let l = c.before.before in
-    let e = l.before.before.before in
-    let a = e.args in
-    let k = l.loop-k.k in (
+    let a = c.args in
+    let k = c.loop-k.k in (
       omega arith,
-      simp length-set l.loop-k.invariant.1,
-      tab_turn (λ i. mask_from i (drop a.start a.random.now)) _ _ k _ l.loop-k.invariant.2
-          (mask_drawn a.random.now a.start k c.byte_at.result c.byte_at.ensures) (omega (arith, e.requires.1)),
+      simp length-set c.loop-k.invariant.1,
+      tab_turn (λ i. mask_from i (drop a.start a.random.now)) _ _ k _ c.loop-k.invariant.2
+          (mask_drawn a.random.now a.start k c.byte_at.result c.byte_at.ensures) (omega (arith, c.requires.1)),
     )
 
 pub shape_of-out : goal.shape_of-out
@@ -30,6 +28,4 @@ shape_of-out c = c.loop-k.invariant.1
 pub returns : goal.returns
 unfolding masks_from
 returns c =
-    let l = c.before in
-    let e = l.before.before.before in
-    tab_full _ _ _ 24 l.loop-k.k l.loop-k.invariant.2 (omega arith) e.requires.1
+    tab_full _ _ _ 24 c.loop-k.k c.loop-k.invariant.2 (omega arith) c.requires.1

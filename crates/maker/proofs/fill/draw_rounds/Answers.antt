@@ -18,27 +18,23 @@ loop-l-init c = (omega arith, refl, begins_none round_use _ _, refl, refl)
 
 pub draw_round-next-requires : goal.draw_round-next-requires
 draw_round-next-requires c =
-    let l = c.before.before in
-    let e = l.before.before.before.before in
-    let a = e.args in (
-      e.requires.0,
-      omega (arith, e.requires.1, e.requires.2, l.loop-l.invariant.0, begins_near 384 round_use (λ l. within_round) a.random.now a.start l.loop-l.at l.loop-l.l l.loop-l.invariant.2),
-      length_part l.loop-l.out l.loop-l.a 408 (omega (arith, l.loop-l.invariant.1, l.loop-l.invariant.3, e.requires.3)),
+    let a = c.args in (
+      c.requires.0,
+      omega (arith, c.requires.1, c.requires.2, c.loop-l.invariant.0, begins_near 384 round_use (λ c. within_round) a.random.now a.start c.loop-l.at c.loop-l.l c.loop-l.invariant.2),
+      length_part c.loop-l.out c.loop-l.a 408 (omega (arith, c.loop-l.invariant.1, c.loop-l.invariant.3, c.requires.3)),
     )
 
 pub loop-l-preserved : goal.loop-l-preserved
 loop-l-preserved c =
-    let d = c.before.before in
-    let l = d.before.before.before in
-    let a = l.args in
+    let a = c.args in
     let s = drop a.start a.random.now in
-    let k = l.loop-l.l in (
+    let k = c.loop-l.l in (
       omega arith,
-      omega (arith, l.loop-l.invariant.1),
-      begins_turn round_use a.random.now a.start l.loop-l.at k l.loop-l.invariant.2 _ d.draw_round-next.ensures.0,
-      same_len_mid l.loop-l.a (l.loop-l.a + 408 - l.loop-l.a) l.loop-l.out d.draw_round-next.new.1.1.1.0 d.draw_round-next.auto.1.1.1.0 ∙ l.loop-l.invariant.3,
-      chunks_turn (λ i. round_from (left round_use i s)) 408 (λ i. length_round (left round_use i s)) _ _ _ _ _ l.loop-l.invariant.4 l.loop-l.invariant.1
-          (d.draw_round-next.ensures.1 ∙ ap round_from (sym (left_at round_use a.random.now a.start l.loop-l.at k l.loop-l.invariant.2))),
+      omega (arith, c.loop-l.invariant.1),
+      begins_turn round_use a.random.now a.start c.loop-l.at k c.loop-l.invariant.2 _ c.draw_round-next.ensures.0,
+      same_len_mid c.loop-l.a (c.loop-l.a + 408 - c.loop-l.a) c.loop-l.out c.draw_round-next.new.out c.draw_round-next.auto.out ∙ c.loop-l.invariant.3,
+      chunks_turn (λ i. round_from (left round_use i s)) 408 (λ i. length_round (left round_use i s)) _ _ _ _ _ c.loop-l.invariant.4 c.loop-l.invariant.1
+          (c.draw_round-next.ensures.1 ∙ ap round_from (sym (left_at round_use a.random.now a.start c.loop-l.at k c.loop-l.invariant.2))),
     )
 
 pub shape_of-out : goal.shape_of-out
@@ -47,10 +43,8 @@ shape_of-out c = c.loop-l.invariant.3
 pub returns : goal.returns
 unfolding rounds_draw rounds_from
 returns c =
-    let l = c.before in
-    let e = l.before.before.before.before in
-    let a = e.args in
-    let d : l.loop-l.l ≡ a.r = omega arith in (
-      l.loop-l.invariant.2 ∙ ap (λ (n : ℕ). a.start + begins round_use n (drop a.start a.random.now)) d,
-      chunks_full _ _ _ _ l.loop-l.l l.loop-l.a l.loop-l.invariant.4 d (omega (arith, e.requires.3, l.loop-l.invariant.1)),
+    let a = c.args in
+    let d : c.loop-l.l ≡ a.r = omega arith in (
+      c.loop-l.invariant.2 ∙ ap (λ (n : ℕ). a.start + begins round_use n (drop a.start a.random.now)) d,
+      chunks_full _ _ _ _ c.loop-l.l c.loop-l.a c.loop-l.invariant.4 d (omega (arith, c.requires.3, c.loop-l.invariant.1)),
     )

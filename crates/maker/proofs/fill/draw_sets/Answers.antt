@@ -17,31 +17,26 @@ loop-k-init c = (omega arith, refl, refl, written_none _ _)
 
 pub set_coding-next-requires : goal.set_coding-next-requires
 set_coding-next-requires c =
-    let l = c.before.before in
-    let e = l.before.before.before.before.before in
-    let p = planned e.args.rule e.args.set.now in
-    let b : 16 * l.loop-k.k + 16 ≤ length l.loop-k.out = omega (arith, l.loop-k.invariant.2, e.requires.3) in (
-      e.requires.0,
-      omega (arith, e.requires.2, l.loop-k.invariant.0, l.loop-k.invariant.1, within_begins 15 (set_use p) (within_set p) l.loop-k.k e.args.random.now),
-      e.requires.1,
-      omega (arith, e.requires.2),
+    let p = planned c.args.rule c.args.set.now in
+    let b : 16 * c.loop-k.k + 16 ≤ length c.loop-k.out = omega (arith, c.loop-k.invariant.2, c.requires.3) in (
+      c.requires.0,
+      omega (arith, c.requires.2, c.loop-k.invariant.0, c.loop-k.invariant.1, within_begins 15 (set_use p) (within_set p) c.loop-k.k c.args.random.now),
+      c.requires.1,
+      omega (arith, c.requires.2),
       b,
     )
 
 pub loop-k-preserved : goal.loop-k-preserved
 loop-k-preserved c =
-    let d = c.before.before in
-    let l = d.before.before.before in
-    let e = l.before.before.before.before.before in
-    let p = planned e.args.rule e.args.set.now in
-    let s = e.args.random.now in
-    let k = l.loop-k.k in (
+    let p = planned c.args.rule c.args.set.now in
+    let s = c.args.random.now in
+    let k = c.loop-k.k in (
       omega arith,
-      begins_more (set_use p) s l.loop-k.at k _ l.loop-k.invariant.1 d.set_coding-next.ensures.0,
-      d.set_coding-next.auto.1.1.1.1.1.1.0 ∙ l.loop-k.invariant.2,
-      d.set_coding-next.ensures.1
-          ∙ written_more (set_coding p s) (length_set_coding p s) e.args.out.now l.loop-k.out _ k l.loop-k.invariant.3
-          (set_coding_is p e.requires.1 s l.loop-k.out e.args.out.now _ l.loop-k.at k l.loop-k.invariant.1 l.loop-k.invariant.3 refl),
+      begins_more (set_use p) s c.loop-k.at k _ c.loop-k.invariant.1 c.set_coding-next.ensures.0,
+      c.set_coding-next.auto.out ∙ c.loop-k.invariant.2,
+      c.set_coding-next.ensures.1
+          ∙ written_more (set_coding p s) (length_set_coding p s) c.args.out.now c.loop-k.out _ k c.loop-k.invariant.3
+          (set_coding_is p c.requires.1 s c.loop-k.out c.args.out.now _ c.loop-k.at k c.loop-k.invariant.1 c.loop-k.invariant.3 refl),
     )
 
 pub shape_of-out : goal.shape_of-out
@@ -49,10 +44,8 @@ shape_of-out c = c.loop-k.invariant.2
 
 pub returns : goal.returns
 returns c =
-    let l = c.before in
-    let e = l.before.before.before.before.before in
-    let a = e.args in
-    let d : l.loop-k.k ≡ a.n = omega arith in (
-      l.loop-k.invariant.1 ∙ ap (λ (n : ℕ). begins (set_use (planned a.rule a.set.now)) n a.random.now) d,
-      written_all _ _ _ a.n l.loop-k.k l.loop-k.invariant.3 d e.requires.3,
+    let a = c.args in
+    let d : c.loop-k.k ≡ a.n = omega arith in (
+      c.loop-k.invariant.1 ∙ ap (λ (n : ℕ). begins (set_use (planned a.rule a.set.now)) n a.random.now) d,
+      written_all _ _ _ a.n c.loop-k.k c.loop-k.invariant.3 d c.requires.3,
     )

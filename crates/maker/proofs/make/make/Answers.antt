@@ -12,9 +12,8 @@ use Rattle.maker.proofs.make.make.Goals as goal
 
 pub returns-then-out-end : goal.returns-then-out-end
 returns-then-out-end c =
-    let l = c.before in
-    let a = l.args in
-    sym (made_room (planned a.rule a.set.now) a.size a.random.now a.out-1.now (omega (arith, l.chain_len-end.ensures, c.if-out-end.true)))
+    let a = c.args in
+    sym (made_room (planned a.rule a.set.now) a.size a.random.now a.out-1.now (omega (arith, c.chain_len-end.ensures, c.if-out-end.true)))
 
 pub chain_draws-requires : goal.chain_draws-requires
 chain_draws-requires c =
@@ -23,36 +22,22 @@ chain_draws-requires c =
 
 pub returns-then-random-chain_draws : goal.returns-then-random-chain_draws
 returns-then-random-chain_draws c =
-    let d = c.before in
-    let q = d.before in
-    let e = q.before.before.before in
-    let l = e.before in
-    let a = l.args in
+    let a = c.args in
     let p = planned a.rule a.set.now in
-    let n = d.chain_draws.ensures ∙ ap (λ (k : ℕ). chain_draws p k a.random.now) q.rounds.ensures in
-    sym (made_ran_out p a.size a.random.now a.out-1.now (omega (arith, l.chain_len-end.ensures, e.if-out-end.false)) (omega (arith, n, c.if-random-chain_draws.true)))
+    let n = c.chain_draws.ensures ∙ ap (λ (k : ℕ). chain_draws p k a.random.now) c.rounds.ensures in
+    sym (made_ran_out p a.size a.random.now a.out-1.now (omega (arith, c.chain_len-end.ensures, c.if-out-end.false)) (omega (arith, n, c.if-random-chain_draws.true)))
 
 pub draw_chain-drawn-requires : goal.draw_chain-drawn-requires
-draw_chain-drawn-requires c =
-    let t = c.before.before.before.before.before.before in
-    let e = t.before in
-    let l = e.before in
-    let s = l.before.before.before.before in (
-      t.number_table-table.ensures,
-      s.requires,
-      room_length l.chain_len-end.result (chain_length s.args.size) s.args.out.now l.chain_len-end.ensures (omega (arith, l.chain_len-end.ensures, e.if-out-end.false)),
-    )
+draw_chain-drawn-requires c = (
+  c.number_table-table.ensures,
+  c.requires,
+  room_length c.chain_len-end.result (chain_length c.args.size) c.args.out.now c.chain_len-end.ensures (omega (arith, c.chain_len-end.ensures, c.if-out-end.false)),
+)
 
 pub returns : goal.returns
 returns c =
-    let m = c.before.before in
-    let g = m.before.before.before in
-    let d = g.before in
-    let q = d.before in
-    let e = q.before.before.before in
-    let l = e.before in
-    let a = l.args in
+    let a = c.args in
     let p = planned a.rule a.set.now in
-    let n = d.chain_draws.ensures ∙ ap (λ (k : ℕ). chain_draws p k a.random.now) q.rounds.ensures in
-    made_front p a.size a.random.now a.out-1.now (omega (arith, l.chain_len-end.ensures, e.if-out-end.false)) (omega (arith, n, g.if-random-chain_draws.false))
-    l.chain_len-end.result m.draw_chain-drawn.result _ l.chain_len-end.ensures m.draw_chain-drawn.ensures.0 m.draw_chain-drawn.ensures.1
+    let n = c.chain_draws.ensures ∙ ap (λ (k : ℕ). chain_draws p k a.random.now) c.rounds.ensures in
+    made_front p a.size a.random.now a.out-1.now (omega (arith, c.chain_len-end.ensures, c.if-out-end.false)) (omega (arith, n, c.if-random-chain_draws.false))
+    c.chain_len-end.result c.draw_chain-drawn.result _ c.chain_len-end.ensures c.draw_chain-drawn.ensures.0 c.draw_chain-drawn.ensures.1

@@ -13,6 +13,4 @@ make-requires c = (lit< tt, lit< tt, λ e. absurd (omega arith))
 
 pub returns : goal.returns
 returns c =
-    let m = c.before.before in
-    let s = m.before.before.before.before in
-    m.make.ensures ∙ sym (make_sized _ _ _ s.in-Found.size (sym s.of_key_len.ensures ∙ s.in-Found.is))
+    c.make.ensures ∙ sym (make_sized _ _ _ c.in-Found.size (sym c.of_key_len.ensures ∙ c.in-Found.is))

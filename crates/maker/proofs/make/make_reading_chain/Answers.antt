@@ -12,19 +12,12 @@ returns-in_default c = sym (reading_key _ _ _ _ (sym c.of_key_len.ensures ∙ c.
 
 pub returns-in-Refused : goal.returns-in-Refused
 returns-in-Refused c =
-    let w = c.before in
-    let k = w.before.before in
-    let s = k.before.before in
-    sym (reading_set _ _ _ _ _ (sym s.of_key_len.ensures ∙ s.in-Found.is) _ k.check_set.ensures _ w.in-Refused.is)
+    sym (reading_set _ _ _ _ _ (sym c.of_key_len.ensures ∙ c.in-Found.is) _ c.check_set.ensures _ c.in-Refused.is)
 
 pub make-requires : goal.make-requires
 make-requires c = (lit< tt, lit< tt, λ e. absurd (omega arith))
 
 pub returns : goal.returns
 returns c =
-    let m = c.before.before in
-    let t = m.before.before in
-    let k = t.before.before in
-    let s = k.before.before in
-    let fine = set_checked_lem _ (sym k.check_set.ensures ∙ ap outcome_of t.in_default-check_set.is) in
-    m.make.ensures ∙ sym (reading_sized _ _ _ _ s.in-Found.size (sym s.of_key_len.ensures ∙ s.in-Found.is) fine)
+    let fine = set_checked_lem _ (sym c.check_set.ensures ∙ ap outcome_of c.in_default-check_set.is) in
+    c.make.ensures ∙ sym (reading_sized _ _ _ _ c.in-Found.size (sym c.of_key_len.ensures ∙ c.in-Found.is) fine)

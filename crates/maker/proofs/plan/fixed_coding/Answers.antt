@@ -14,6 +14,5 @@ returns-then-k c given = let a = c.args in sym (coding_early (planned a.rule giv
 pub returns : goal.returns
 unfolding fixed_coding
 returns c given =
-    let e = c.before in
-    let a = e.args in
-    sym (ap (λ (b : Bool). b && eqb (a.k % 32 / 8) a.rule.to) (le-leb 64 a.k e.if-k.false))
+    let a = c.args in
+    sym (ap (λ (b : Bool). b && eqb (a.k % 32 / 8) a.rule.to) (le-leb 64 a.k c.if-k.false))

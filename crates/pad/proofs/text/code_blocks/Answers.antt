@@ -18,22 +18,18 @@ loop-k-init c = (search rules, refl, refl, refl)
 
 pub look_up-requires : goal.look_up-requires
 look_up-requires c =
-    let s = c.before.before.before in
-    let e = s.before.before.before.before in
-    (e.requires.0, length_part e.args.text.now s.loop-k.a 16 (omega arith), length_part s.loop-k.out s.loop-k.a 16 (omega arith))
+    (c.requires.0, length_part c.args.text.now c.loop-k.a 16 (omega arith), length_part c.loop-k.out c.loop-k.a 16 (omega arith))
 
 pub loop-k-preserved : goal.loop-k-preserved
 loop-k-preserved c =
-    let call = c.before.before in
-    let s = call.before.before.before.before in
-    let u = s.args in
+    let u = c.args in
     let t = u.images.now in
     let text = u.text.now in (
       omega arith,
       omega arith,
-      same_len_mid s.loop-k.a (s.loop-k.a + 16 - s.loop-k.a) s.loop-k.out call.look_up.new.1.1.0 call.look_up.auto.1.1.0 ∙ s.loop-k.invariant.2,
+      same_len_mid c.loop-k.a (c.loop-k.a + 16 - c.loop-k.a) c.loop-k.out c.look_up.new.out c.look_up.auto.out ∙ c.loop-k.invariant.2,
       chunks_turn (block_images t text) 16 (λ i. length_tab 16 (λ j. image_at t j (get_or text (i * 16 + j) 0)))
-          _ _ _ _ _ s.loop-k.invariant.3 s.loop-k.invariant.1 (lent_block t text _ s.loop-k.k s.loop-k.a s.loop-k.invariant.1 call.look_up.ensures),
+          _ _ _ _ _ c.loop-k.invariant.3 c.loop-k.invariant.1 (lent_block t text _ c.loop-k.k c.loop-k.a c.loop-k.invariant.1 c.look_up.ensures),
     )
 
 pub shape_of-out : goal.shape_of-out
@@ -41,6 +37,4 @@ shape_of-out c = c.loop-k.invariant.2
 
 pub returns : goal.returns
 returns c =
-    let l = c.before in
-    let e = l.before.before.before.before in
-    blocks_full e.args.images.now e.args.text.now _ _ e.args.n l.loop-k.k l.loop-k.a e.requires.1 l.loop-k.invariant.3 l.loop-k.invariant.1 (omega arith)
+    blocks_full c.args.images.now c.args.text.now _ _ c.args.n c.loop-k.k c.loop-k.a c.requires.1 c.loop-k.invariant.3 c.loop-k.invariant.1 (omega arith)

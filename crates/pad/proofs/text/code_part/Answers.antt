@@ -18,14 +18,13 @@ bounds-images-from c = omega (arith, c.wide.ensures.1)
 
 pub loop-i-preserved : goal.loop-i-preserved
 loop-i-preserved c =
-    let l = c.before.before.before.before in
-    let a = l.args in (
+    let a = c.args in (
       omega arith,
-      l.loop-i.invariant.1,
-      simp length-set l.loop-i.invariant.2,
-      part_turn (λ k. image_at a.images.now ((a.from + k) % 16) (get_or a.part.now k 0)) a.out.now l.loop-i.out a.from l.loop-i.i
-          (length a.part.now) l.requires.1 l.loop-i.invariant.3 _
-          (ap (image_at a.images.now ((a.from + l.loop-i.i) % 16)) c.wide.ensures.0) (omega arith),
+      c.loop-i.invariant.1,
+      simp length-set c.loop-i.invariant.2,
+      part_turn (λ k. image_at a.images.now ((a.from + k) % 16) (get_or a.part.now k 0)) a.out.now c.loop-i.out a.from c.loop-i.i
+          (length a.part.now) c.requires.1 c.loop-i.invariant.3 _
+          (ap (image_at a.images.now ((a.from + c.loop-i.i) % 16)) c.wide.ensures.0) (omega arith),
     )
 
 pub shape_of-out : goal.shape_of-out
@@ -34,7 +33,6 @@ shape_of-out c = c.loop-i.invariant.2
 pub returns : goal.returns
 unfolding coded_part
 returns c =
-    let l = c.before in
-    let a = l.args in
-    part_full (λ k. image_at a.images.now ((a.from + k) % 16) (get_or a.part.now k 0)) a.out.now l.loop-i.out a.from l.loop-i.i
-    (length a.part.now) l.requires.1 l.loop-i.invariant.3 (omega arith)
+    let a = c.args in
+    part_full (λ k. image_at a.images.now ((a.from + k) % 16) (get_or a.part.now k 0)) a.out.now c.loop-i.out a.from c.loop-i.i
+    (length a.part.now) c.requires.1 c.loop-i.invariant.3 (omega arith)

@@ -9,13 +9,9 @@ use Rattle.pad.proofs.text.code_text.Goals as goal
 
 pub returns : goal.returns
 returns c =
-    let p = c.before.before.before.before.before.before.before in
-    let b = p.before.before.before.before.before.before in
-    let i = b.before.before.before.before in
-    let k = i.before.before.before in
-    let a = k.args in
+    let a = c.args in
     let m = a.message.now in
-    let low : Bytes m = bytes_of_lem m (λ j h. omega (arith, k.shared_slice_known-2-1.given j)) in
-    let more : Bytes a.added.now = bytes_of_lem a.added.now (λ j h. omega (arith, k.shared_slice_known-3-1.given j)) in
-    all_written a.set.now _ m a.added.now a.out-1.now _ _ _ (length m / 16 * 16) i.images.ensures low more (omega arith) b.code_blocks.ensures
-    p.code_part.ensures c.code_part-2.ensures
+    let low : Bytes m = bytes_of_lem m (λ j h. omega (arith, c.shared_slice_known-2-1.given j)) in
+    let more : Bytes a.added.now = bytes_of_lem a.added.now (λ j h. omega (arith, c.shared_slice_known-3-1.given j)) in
+    all_written a.set.now _ m a.added.now a.out-1.now _ _ _ (length m / 16 * 16) c.images.ensures low more (omega arith) c.code_blocks.ensures
+    c.code_part.ensures c.code_part-2.ensures

@@ -15,11 +15,10 @@ loop-k-init c = (omega arith, refl, refl)
 
 pub loop-k-preserved : goal.loop-k-preserved
 loop-k-preserved c =
-    let l = c.before.before in
-    let a = l.args in (
+    let a = c.args in (
       omega arith,
-      simp length-set l.loop-k.invariant.1,
-      tab_turn (λ i. get_or a.text.now i 0) a.out.now l.loop-k.out l.loop-k.k _ l.loop-k.invariant.2 refl (omega arith),
+      simp length-set c.loop-k.invariant.1,
+      tab_turn (λ i. get_or a.text.now i 0) a.out.now c.loop-k.out c.loop-k.k _ c.loop-k.invariant.2 refl (omega arith),
     )
 
 pub shape_of-out : goal.shape_of-out
@@ -27,9 +26,8 @@ shape_of-out c = c.loop-k.invariant.1
 
 pub returns : goal.returns
 returns c =
-    let l = c.before in
-    let a = l.args in
-    let e : l.loop-k.k ≡ length a.text.now = omega arith in
-    l.loop-k.invariant.2
+    let a = c.args in
+    let e : c.loop-k.k ≡ length a.text.now = omega arith in
+    c.loop-k.invariant.2
     ∙ ap (λ (k : ℕ). tab k (λ i. get_or a.text.now i 0) ++ drop k a.out.now) e
     ∙ ap (λ (p : List ℕ). p ++ drop (length a.text.now) a.out.now) (tab_is (length a.text.now) (λ i. get_or a.text.now i 0) a.text.now refl (λ i h. refl))

@@ -17,20 +17,16 @@ loop-k-init c = (omega arith, refl, refl, refl)
 
 pub loop-k-preserved : goal.loop-k-preserved
 loop-k-preserved c =
-    let at_put_block = c.before.before.before in
-    let at_fold = at_put_block.before in
-    let at_block_at = at_fold.before in
-    let l = at_block_at.before.before.before.before in
-    let a = l.args in
-    let v = l.loop-k.invariant in
+    let a = c.args in
+    let v = c.loop-k.invariant in
     let f = fold_of a.f.now a.iv a.sealed.now a.out-1.now in
     let len = length_fold a.f.now a.iv a.sealed.now a.out-1.now in
-    let read = at_block_at.block_at.ensures ∙ made_next f len a.out-1.now l.loop-k.k l.loop-k.out v.2 in (
+    let read = c.block_at.ensures ∙ made_next f len a.out-1.now c.loop-k.k c.loop-k.out v.2 in (
       omega arith,
-      before_more a.iv a.sealed.now _ l.loop-k.k c.block_at-before.ensures,
-      at_put_block.put_block.ensures
-          ∙ made_more f len a.out-1.now l.loop-k.k l.loop-k.out v.2 at_fold.fold.result (at_fold.fold.ensures ∙ ap₂ (table_fold a.f.now) read v.1),
-      at_put_block.put_block.auto.0 ∙ v.3,
+      before_more a.iv a.sealed.now _ c.loop-k.k c.block_at-before.ensures,
+      c.put_block.ensures
+          ∙ made_more f len a.out-1.now c.loop-k.k c.loop-k.out v.2 c.fold.result (c.fold.ensures ∙ ap₂ (table_fold a.f.now) read v.1),
+      c.put_block.auto.d ∙ v.3,
     )
 
 pub shape_of-out : goal.shape_of-out
@@ -38,7 +34,6 @@ shape_of-out c = c.loop-k.invariant.3
 
 pub returns : goal.returns
 returns c =
-    let l = c.before in
-    let a = l.args in
-    let e : l.loop-k.k ≡ a.n = omega arith in
-    l.loop-k.invariant.2 ∙ ap (λ (k : ℕ). chunks k (fold_of a.f.now a.iv a.sealed.now a.out-1.now) ++ drop (16 * k) a.out-1.now) e
+    let a = c.args in
+    let e : c.loop-k.k ≡ a.n = omega arith in
+    c.loop-k.invariant.2 ∙ ap (λ (k : ℕ). chunks k (fold_of a.f.now a.iv a.sealed.now a.out-1.now) ++ drop (16 * k) a.out-1.now) e

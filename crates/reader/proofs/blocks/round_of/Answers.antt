@@ -18,28 +18,23 @@ loop-k-init c = (omega arith, refl, refl)
 
 pub slice_bounds-step-end : goal.slice_bounds-step-end
 slice_bounds-step-end c =
-    let l = c.before in
-    omega (arith, l.loop-k.invariant.2, l.requires.2)
+    omega (arith, c.loop-k.invariant.2, c.requires.2)
 
 pub step-requires : goal.step-requires
 step-requires c =
-    let l = c.before.before in
-    let e = l.before.before.before in
-    (e.requires.0, length_part l.loop-k.out (16 * l.loop-k.k) 16 (omega (arith, l.loop-k.invariant.2, e.requires.2)))
+    (c.requires.0, length_part c.loop-k.out (16 * c.loop-k.k) 16 (omega (arith, c.loop-k.invariant.2, c.requires.2)))
 
 pub loop-k-preserved : goal.loop-k-preserved
 loop-k-preserved c =
-    let call = c.before.before in
-    let l = call.before.before.before in
-    let a = l.args in
-    let v = l.loop-k.invariant in
-    let k = l.loop-k.k in
+    let a = c.args in
+    let v = c.loop-k.invariant in
+    let k = c.loop-k.k in
     let f = round_of a.t.now a.out-1.now in
     let len = length_round a.t.now a.out-1.now in
-    let read = made_part f len a.out-1.now k l.loop-k.out v.1 in (
+    let read = made_part f len a.out-1.now k c.loop-k.out v.1 in (
       omega arith,
-      made_lent f len a.out-1.now k l.loop-k.out v.1 _ (call.step.ensures ∙ ap (read_round a.t.now) read),
-      same_len_mid (16 * k) (16 * k + 16 - 16 * k) l.loop-k.out call.step.new.1.0 call.step.auto.1.0 ∙ v.2,
+      made_lent f len a.out-1.now k c.loop-k.out v.1 _ (c.step.ensures ∙ ap (read_round a.t.now) read),
+      same_len_mid (16 * k) (16 * k + 16 - 16 * k) c.loop-k.out c.step.new.y c.step.auto.y ∙ v.2,
     )
 
 pub shape_of-out : goal.shape_of-out
@@ -47,7 +42,6 @@ shape_of-out c = c.loop-k.invariant.2
 
 pub returns : goal.returns
 returns c =
-    let l = c.before in
-    let a = l.args in
-    let e : l.loop-k.k ≡ a.n = omega arith in
-    l.loop-k.invariant.1 ∙ ap (λ (k : ℕ). chunks k (round_of a.t.now a.out-1.now) ++ drop (16 * k) a.out-1.now) e
+    let a = c.args in
+    let e : c.loop-k.k ≡ a.n = omega arith in
+    c.loop-k.invariant.1 ∙ ap (λ (k : ℕ). chunks k (round_of a.t.now a.out-1.now) ++ drop (16 * k) a.out-1.now) e

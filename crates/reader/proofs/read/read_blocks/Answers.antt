@@ -16,44 +16,29 @@ overflow_mul-at c = record { fits = omega (arith, c.rounds-r.ensures, rounds_le 
 
 pub rounds-requires : goal.rounds-requires
 rounds-requires c =
-    let at_copy = c.before.before.before in
-    let at_rounds = at_copy.before.before in
-    let e = at_rounds.before.before.before.before in
-    let r = at_rounds.rounds-r.ensures in
-    let same = at_copy.copy.auto.1.0 in
-    (omega (arith, r, rounds_le e.args.size), omega (arith, r, e.requires.0), e.requires.1, omega (arith, same, e.requires.2, e.requires.3))
+    let r = c.rounds-r.ensures in
+    let same = c.copy.auto.out in
+    (omega (arith, r, rounds_le c.args.size), omega (arith, r, c.requires.0), c.requires.1, omega (arith, same, c.requires.2, c.requires.3))
 
 pub folds-requires : goal.folds-requires
 folds-requires c =
-    let at_rounds2 = c.before.before.before.before in
-    let at_copy = at_rounds2.before.before.before.before in
-    let at_rounds = at_copy.before.before in
-    let e = at_rounds.before.before.before.before in
-    let r = at_rounds.rounds-r.ensures in
-    let same = at_copy.copy.auto.1.0 in
-    let same2 = at_rounds2.rounds.auto.1.1.1.0 in (
-      group_room e.args.book.now at_rounds.rounds-r.result (omega (arith, r, e.requires.0)),
-      e.requires.1,
-      omega (arith, e.requires.2),
-      omega (arith, same, same2, e.requires.2, e.requires.3),
+    let r = c.rounds-r.ensures in
+    let same = c.copy.auto.out in
+    let same2 = c.rounds.auto.out in (
+      group_room c.args.book.now c.rounds-r.result (omega (arith, r, c.requires.0)),
+      c.requires.1,
+      omega (arith, c.requires.2),
+      omega (arith, same, same2, c.requires.2, c.requires.3),
     )
 
 pub shape_of-out : goal.shape_of-out
 shape_of-out c =
-    let at_folds = c.before.before in
-    let at_rounds2 = at_folds.before.before.before.before.before in
-    let at_copy = at_rounds2.before.before.before.before in
-    at_folds.folds.auto.1.1.1.1.0 ∙ at_rounds2.rounds.auto.1.1.1.0 ∙ at_copy.copy.auto.1.0
+    c.folds.auto.out ∙ c.rounds.auto.out ∙ c.copy.auto.out
 
 pub returns : goal.returns
 returns c =
-    let at_folds = c.before.before in
-    let at_rounds2 = at_folds.before.before.before.before.before in
-    let at_copy = at_rounds2.before.before.before.before in
-    let at_rounds = at_copy.before.before in
-    let e = at_rounds.before.before.before.before in
-    let a = e.args in
-    let q = at_rounds.rounds-r.result in
-    read_is a.book.now a.iv a.sealed.now a.out-1.now q a.n (omega (arith, at_rounds.rounds-r.ensures, rounds_more a.size)) e.requires.2 e.requires.3 _ _ _ _
-    at_copy.copy.ensures at_rounds2.rounds.ensures (part_end a.book.now (18432 * q)) at_folds.folds.ensures
-    ∙ ap (λ (r : ℕ). chunks a.n (read_at a.book.now r a.iv a.sealed.now) ++ drop (16 * a.n) a.out-1.now) at_rounds.rounds-r.ensures
+    let a = c.args in
+    let q = c.rounds-r.result in
+    read_is a.book.now a.iv a.sealed.now a.out-1.now q a.n (omega (arith, c.rounds-r.ensures, rounds_more a.size)) c.requires.2 c.requires.3 _ _ _ _
+    c.copy.ensures c.rounds.ensures (part_end a.book.now (18432 * q)) c.folds.ensures
+    ∙ ap (λ (r : ℕ). chunks a.n (read_at a.book.now r a.iv a.sealed.now) ++ drop (16 * a.n) a.out-1.now) c.rounds-r.ensures

@@ -3,12 +3,10 @@ use Rattle.reader.proofs.round.step.Goals as goal
 
 pub subtracts-requires : goal.subtracts-requires
 subtracts-requires c =
-    let at_turned = c.before.before in
-    let e = at_turned.before.before.before.before in
-    (e.requires.0, e.requires.1, at_turned.turned-s.ensures)
+    (c.requires.0, c.requires.1, c.turned-s.ensures)
 
 pub shape_of-y : goal.shape_of-y
-shape_of-y c = c.subtracts.auto.1.1.0
+shape_of-y c = c.subtracts.auto.y
 
 pub returns : goal.returns
 returns c = c.subtracts.ensures

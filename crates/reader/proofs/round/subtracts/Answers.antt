@@ -13,14 +13,8 @@ loop-m-init c = (omega arith, c.requires.1, differences_first _ _ c.requires.1)
 
 pub byte_of_each-w-requires : goal.byte_of_each-w-requires
 byte_of_each-w-requires c =
-    let l = c.before.before.before in
-    let e = l.before.before.before.before in
-    let v = l.loop-m.invariant.2 in
-    (omega arith, v.small1, v.small2, v.small3, subtracts_room e.args.t.now e.requires.0, turned_length _ _ _ e.requires.2)
-
--- the lent block has room for each of the four stores
-below : (c : goal.In-loop-m) → c.loop-m.m < 4
-below c = omega arith
+    let v = c.loop-m.invariant.2 in
+    (omega arith, v.small1, v.small2, v.small3, subtracts_room c.args.t.now c.requires.0, turned_length _ _ _ c.requires.2)
 
 at_front : (m n : ℕ) → m < 4 → n ≡ 16 → m < n
 at_front m n a e = omega arith
@@ -28,34 +22,47 @@ at_front m n a e = omega arith
 inside : (m k n : ℕ) → m < 4 → k < 13 → n ≡ 16 → m + k < n
 inside m k n a b e = omega arith
 
-long : (c : goal.After-byte_of_each-w) → length c.loop-m.y ≡ 16
-long c = c.loop-m.invariant.1
-
 pub bounds-y-m-in-loop-m : goal.bounds-y-m-in-loop-m
-bounds-y-m-in-loop-m c = inside _ 12 _ (below c.before.before.before) (lit< tt) (long c)
+bounds-y-m-in-loop-m c =
+    let below : c.loop-m.m < 4 =
+    omega arith in
+    let long : length c.loop-m.y ≡ 16 =
+    c.loop-m.invariant.1 in
+    inside _ 12 _ below (lit< tt) long
 
 pub bounds-y-m-in-loop-m-2 : goal.bounds-y-m-in-loop-m-2
-bounds-y-m-in-loop-m-2 c = at_front _ _ (below c.before.before.before) (simp length-set (long c))
+bounds-y-m-in-loop-m-2 c =
+    let below : c.loop-m.m < 4 =
+    omega arith in
+    let long : length c.loop-m.y ≡ 16 =
+    c.loop-m.invariant.1 in
+    at_front _ _ below (simp length-set long)
 
 pub bounds-y-m-in-loop-m-3 : goal.bounds-y-m-in-loop-m-3
-bounds-y-m-in-loop-m-3 c = inside _ 4 _ (below c.before.before.before) (lit< tt) (simp length-set (long c))
+bounds-y-m-in-loop-m-3 c =
+    let below : c.loop-m.m < 4 =
+    omega arith in
+    let long : length c.loop-m.y ≡ 16 =
+    c.loop-m.invariant.1 in
+    inside _ 4 _ below (lit< tt) (simp length-set long)
 
 pub bounds-y-m-in-loop-m-4 : goal.bounds-y-m-in-loop-m-4
-bounds-y-m-in-loop-m-4 c = inside _ 8 _ (below c.before.before.before) (lit< tt) (simp length-set (long c))
+bounds-y-m-in-loop-m-4 c =
+    let below : c.loop-m.m < 4 =
+    omega arith in
+    let long : length c.loop-m.y ≡ 16 =
+    c.loop-m.invariant.1 in
+    inside _ 8 _ below (lit< tt) (simp length-set long)
 
 pub loop-m-preserved : goal.loop-m-preserved
 unfolding three four
 loop-m-preserved c =
-    let at_joined = c.before in
-    let l = at_joined.before.before.before in
-    let e = l.before.before.before.before in
-    let made = differences_next _ _ _ _ _ _ _ _ _ _ _ (omega arith) e.requires.2 refl l.loop-m.invariant.2 at_joined.joined-x.ensures c.byte_of_each-w.ensures in
+    let made = differences_next _ _ _ _ _ _ _ _ _ _ _ (omega arith) c.requires.2 refl c.loop-m.invariant.2 c.joined-x.ensures c.byte_of_each-w.ensures in
     (omega arith, made.are.len, made)
 
 pub shape_of-y : goal.shape_of-y
 shape_of-y c =
-    let l = c.before in
-    l.loop-m.invariant.1 ∙ sym l.requires.1
+    c.loop-m.invariant.1 ∙ sym c.requires.1
 
 pub returns : goal.returns
 returns c = differences_full _ _ _ _ _ _ _ (omega arith) c.loop-m.invariant.2

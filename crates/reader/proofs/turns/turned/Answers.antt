@@ -11,10 +11,7 @@ loop-m-init c = (omega arith, turned_first _ _ _ refl)
 pub loop-m-preserved : goal.loop-m-preserved
 unfolding three
 loop-m-preserved c =
-    let at_turned_byte2 = c.before in
-    let at_turned_byte = at_turned_byte2.before in
-    let l = at_turned_byte.before.before in
-    (omega arith, turned_step _ _ _ _ _ _ _ _ (omega arith) l.loop-m.invariant.1 at_turned_byte.turned_byte.ensures at_turned_byte2.turned_byte-in-loop-m.ensures c.turned_byte-in-loop-m-2.ensures)
+    (omega arith, turned_step _ _ _ _ _ _ _ _ (omega arith) c.loop-m.invariant.1 c.turned_byte.ensures c.turned_byte-in-loop-m.ensures c.turned_byte-in-loop-m-2.ensures)
 
 pub returns : goal.returns
 returns c = turned_full _ _ _ _ _ (omega arith) c.loop-m.invariant.1

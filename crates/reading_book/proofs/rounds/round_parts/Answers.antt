@@ -18,15 +18,13 @@ loop-l-init c = (zero-le, refl, refl, refl)
 
 pub overflow_add-to : goal.overflow_add-to
 overflow_add-to c =
-    let s = c.before in
-    let b = rounds_le s.args.size in
-    omega (arith, s.loop-l.invariant.0, s.loop-l.invariant.1)
+    let b = rounds_le c.args.size in
+    omega (arith, c.loop-l.invariant.0, c.loop-l.invariant.1)
 
 pub bounds-rows-r : goal.bounds-rows-r
 bounds-rows-r c =
-    let s = c.before in
-    let b = rounds_le s.args.size in
-    omega (arith, s.rounds-r.ensures)
+    let b = rounds_le c.args.size in
+    omega (arith, c.rounds-r.ensures)
 
 pub overflow_sub-r : goal.overflow_sub-r
 overflow_sub-r c = omega arith
@@ -39,41 +37,33 @@ slice_bounds-round_at-count c = omega arith
 
 pub slice_bounds-round_at-end : goal.slice_bounds-round_at-end
 slice_bounds-round_at-end c =
-    let s = c.before.before in
-    omega (arith, s.loop-l.invariant.1, s.loop-l.invariant.2, s.rounds-r.ensures, s.requires.1)
+    omega (arith, c.loop-l.invariant.1, c.loop-l.invariant.2, c.rounds-r.ensures, c.requires.1)
 
 pub round_at-requires : goal.round_at-requires
 round_at-requires c =
-    let s = c.before.before.before in
-    let e = s.before.before.before.before in
-    let b = rounds_le e.args.size in
-    let h = s.rounds-r.ensures in
-    (e.requires.0, omega arith, length_part _ s.loop-l.at 18432 (omega arith))
+    let b = rounds_le c.args.size in
+    let h = c.rounds-r.ensures in
+    (c.requires.0, omega arith, length_part _ c.loop-l.at 18432 (omega arith))
 
 pub loop-l-smaller : goal.loop-l-smaller
 loop-l-smaller c =
-    let s = c.before.before.before.before.before.before in
-    let h = s.rounds-r.ensures in
+    let h = c.rounds-r.ensures in
     omega arith
 
 pub loop-l-preserved : goal.loop-l-preserved
 loop-l-preserved c =
-    let call = c.before.before in
-    let s = call.before.before.before.before in
-    let a = s.args in
-    let h = s.rounds-r.ensures in
-    let at = s.loop-l.at in
-    parts_next (reading_book_round (rounds a.size) a.t3 a.chain.now) 18432 (rounds a.size) a.out-1.now
-    (round_back_length (rounds a.size) a.t3 a.chain.now) s.loop-l.out _ at s.loop-l.l s.loop-l.invariant (omega arith)
-    (round_back_is (rounds a.size) _ _ a.t3 a.chain.now _ h call.round_at.ensures)
-    (same_len_mid at (at + 18432 - at) s.loop-l.out call.round_at.new.1.1.1.1.0 call.round_at.auto.1.1.1.1.0)
+    let a = c.args in
+    let h = c.rounds-r.ensures in
+    let at = c.loop-l.at in
+    parts_next (reading_book_round (rounds a.size) a.rows a.chain.now) 18432 (rounds a.size) a.out-1.now
+    (round_back_length (rounds a.size) a.rows a.chain.now) c.loop-l.out _ at c.loop-l.l c.loop-l.invariant (omega arith)
+    (round_back_is (rounds a.size) _ _ a.rows a.chain.now _ h c.round_at.ensures)
+    (same_len_mid at (at + 18432 - at) c.loop-l.out c.round_at.new.out c.round_at.auto.out)
 
 pub returns : goal.returns
 returns c =
-    let s = c.before in
-    let e = s.before.before.before.before in
-    let h = s.rounds-r.ensures in
-    parts_done _ 18432 (rounds e.args.size) _ s.loop-l.out s.loop-l.at s.loop-l.l s.loop-l.invariant (omega arith) e.requires.1
+    let h = c.rounds-r.ensures in
+    parts_done _ 18432 (rounds c.args.size) _ c.loop-l.out c.loop-l.at c.loop-l.l c.loop-l.invariant (omega arith) c.requires.1
 
 pub shape_of-out : goal.shape_of-out
 shape_of-out c = c.loop-l.invariant.2

@@ -8,8 +8,7 @@ use Rattle.reading_book.proofs.subtracts.keyed_difference.Goals as goal
 
 pub returns : goal.returns
 returns c =
-    let e = c.before in
-    let s = e.args.s % 16 in
-    let l = e.args.l in
-    let a = xor_lt 4 15 l (lit< tt) e.requires in
+    let s = c.args.s % 16 in
+    let l = c.args.l in
+    let a = xor_lt 4 15 l (lit< tt) c.requires in
     (ap (bit_xor s) c.wide.ensures.0, xor_lt 4 s c.wide.result (omega arith) (omega (arith, c.wide.ensures.0, a)))

@@ -7,10 +7,6 @@ use Rattle.reading_book.proofs.turns.turn_table.Goals as goal
 
 pub returns : goal.returns
 returns c =
-    let d = c.before.before in
-    let at_lower_at = d.before.before.before in
-    let at_upper_at = at_lower_at.before in
-    let e = at_upper_at.before.before.before.before in
-    d.turned_table.ensures
-    ∙ turn_back_made _ e.args.round.now _ e.args.p _ _ e.requires.0 (part_end e.args.round.now (16 * e.args.p)) at_upper_at.upper_at.ensures.0
-    at_lower_at.lower_at.ensures.0
+    c.turned_table.ensures
+    ∙ turn_back_made _ c.args.round.now _ c.args.p _ _ c.requires.0 (part_end c.args.round.now (16 * c.args.p)) c.upper_at.ensures.0
+    c.lower_at.ensures.0

@@ -16,23 +16,18 @@ loop-p-init c = (omega arith, refl, refl, refl)
 
 pub turn_table-requires : goal.turn_table-requires
 turn_table-requires c =
-    let s = c.before.before in
-    let e = s.before.before.before.before in
-    (omega arith, e.requires.0, e.requires.1, e.requires.2, length_part _ s.loop-p.at 256 (omega arith))
+    (omega arith, c.requires.0, c.requires.1, c.requires.2, length_part _ c.loop-p.at 256 (omega arith))
 
 pub loop-p-preserved : goal.loop-p-preserved
 loop-p-preserved c =
-    let call = c.before.before in
-    let s = call.before.before.before in
-    let a = s.args in
-    let at = s.loop-p.at in
-    parts_next (made_turn_back a.s.now a.round.now) 256 24 a.out-1.now (length_turn_back a.s.now a.round.now) s.loop-p.out _ at s.loop-p.p s.loop-p.invariant
-    (omega arith) call.turn_table.ensures (same_len_mid at (at + 256 - at) s.loop-p.out call.turn_table.new.1.1.1.0 call.turn_table.auto.1.1.1.0)
+    let a = c.args in
+    let at = c.loop-p.at in
+    parts_next (made_turn_back a.s.now a.round.now) 256 24 a.out-1.now (length_turn_back a.s.now a.round.now) c.loop-p.out _ at c.loop-p.p c.loop-p.invariant
+    (omega arith) c.turn_table.ensures (same_len_mid at (at + 256 - at) c.loop-p.out c.turn_table.new.out c.turn_table.auto.out)
 
 pub returns : goal.returns
 returns c =
-    let s = c.before in
-    parts_done _ 256 24 _ s.loop-p.out s.loop-p.at s.loop-p.p s.loop-p.invariant (omega arith) s.requires.3
+    parts_done _ 256 24 _ c.loop-p.out c.loop-p.at c.loop-p.p c.loop-p.invariant (omega arith) c.requires.3
 
 pub shape_of-out : goal.shape_of-out
 shape_of-out c = c.loop-p.invariant.2

@@ -63,7 +63,7 @@ add_result t c =
     let s = c.before.before.before in
     let a = s.before.before.before.before in
     let kept : length s.put-decimal.new.1.0 ≡ length a.args.out.now = s.put-decimal.auto.1.0 in
-    omega (arith, kept, slice_write_out_2 t c, a.well-formed.1.0.0)
+    omega (arith, kept, slice_write_out_2 t c, a.well_formed.1.0.0)
 
 same_length_2 : (t : ℕ) → lts.Need-same-length-2 (digit-reads.Asked, digit-reads.Learnt, below t, reads.Post) (at t) reads.Post
 same_length_2 t c =

@@ -20,9 +20,7 @@ returns-in-Refused c =
 pub returns-in-Bytes : goal.returns-in-Bytes
 unfolding coded_opened
 returns-in-Bytes c =
-    let n = c.before.before.before.before.before.before.before.before.before.before in
-    let s = n.before.before.before.before in
-    let a = s.args in
-    ap (λ (y : (ℕ × ℕ) × (List ℕ × List ℕ)). (y.0, (s.code_for_sealing.new.1.1.0, y.1))) c.seal_open.ensures
-    ∙ sym (written_done _ _ _ s.code_for_sealing.ensures (a.sealed-1.now, a.out-1.now)
-    (λ f. sealed_opened a.schedule a.key.now a.set.now a.book.now a.iv.now f a.sealed-1.now a.out-1.now) _ n.in-Bytes.is)
+    let a = c.args in
+    ap (λ (y : (ℕ × ℕ) × (List ℕ × List ℕ)). (y.0, (c.code_for_sealing.new.out, y.1))) c.seal_open.ensures
+    ∙ sym (written_done _ _ _ c.code_for_sealing.ensures (a.sealed-1.now, a.out-1.now)
+    (λ f. sealed_opened a.schedule a.key.now a.set.now a.book.now a.iv.now f a.sealed-1.now a.out-1.now) _ c.in-Bytes.is)

@@ -25,7 +25,7 @@ returns-in-Bytes c =
     ap (λ (y : (ℕ × ℕ) × List ℕ). (
       y.0,
       (
-        c.seal.new.1.1.1.0,
+        c.seal.new.out,
         y.1,
       ),
     )) c.before.before.«open».ensures

@@ -43,10 +43,9 @@ slice_bounds-code_open-end c = omega (
 pub returns-in-Built : goal.returns-in-Built
 unfolding seal_roundtrip
 returns-in-Built c =
-    let k = c.before.before.before.before.before.before.before.before.before.before.before.before.before.before.before.before in
-    let a = k.args in
-    let e = k.start.ensures in
-    let d = k.in-Built.is in
+    let a = c.args in
+    let e = c.start.ensures in
+    let d = c.in-Built.is in
     let s = cut_set _ _ _ _ _ _ e _ d _ c.rounds.ensures in
     let b = cut_book _ _ _ _ _ _ e _ d _ c.book_len.ensures in
     let w : (ℕ × ℕ) × (List ℕ × (List ℕ × List ℕ)) → (ℕ × ℕ) × (List ℕ × List ℕ × List ℕ × List ℕ) = λ o.
@@ -55,7 +54,7 @@ returns-in-Built c =
     (λ i. ((o i).0, (held_is _ _ _ _ _ _ e _ d i, (o i).1.0, (o i).1.1.0, (o i).1.1.1)))
     ∙ (λ i. w (coded_opened a.schedule a.key.now (take 512 a.chain.now) (s i) (b i) a.iv.now a.message.now a.coded-1.now a.sealed-1.now a.out-1.now))
     ∙ coded_opened_lem _ _ _ _ _ (way_built _ _ _ _ _ _ e _ d) (bytes_of_lem a.key.now (λ j h. omega
-    (arith, k.shared_slice_known-1.given j)))
+    (arith, c.shared_slice_known-1.given j)))
     a.iv.now a.message.now a.coded-1.now a.sealed-1.now a.out-1.now
-    (bytes_of_lem a.message.now (λ j h. omega (arith, k.shared_slice_known-4-1.given j))) w
+    (bytes_of_lem a.message.now (λ j h. omega (arith, c.shared_slice_known-4-1.given j))) w
     ∙ sym (way_done _ _ _ _ _ _ e _ d _ _)

@@ -12,13 +12,11 @@ loop-k-init c = (omega arith, refl)
 
 pub loop-k-preserved : goal.loop-k-preserved
 loop-k-preserved c =
-    let h = c.before.before.before.before in
-    let a = h.args in
-    (omega arith, after_turn a.book.now a.coded.now h.loop-k.k a.s h.loop-k.t c.block_call-a.result h.loop-k.invariant.1 c.block_call-a.ensures)
+    let a = c.args in
+    (omega arith, after_turn a.book.now a.coded.now c.loop-k.k a.s c.loop-k.t c.block_call-a.result c.loop-k.invariant.1 c.block_call-a.ensures)
 
 pub returns : goal.returns
 returns c =
-    let h = c.before in
-    let a = h.args in
-    let e : h.loop-k.k ≡ a.n = omega arith in
-    h.loop-k.invariant.1 ∙ ap (λ (j : ℕ). after_blocks a.book.now a.coded.now j a.s) e
+    let a = c.args in
+    let e : c.loop-k.k ≡ a.n = omega arith in
+    c.loop-k.invariant.1 ∙ ap (λ (j : ℕ). after_blocks a.book.now a.coded.now j a.s) e

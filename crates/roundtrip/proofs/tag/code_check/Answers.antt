@@ -15,7 +15,7 @@ pub tag_of-tag-requires : goal.tag_of-tag-requires
 tag_of-tag-requires c =
     let r = tagging_room _ _ _ _ _ c.code_for_tag.ensures _ _ c.in-Coded.is in
     let n = c.in-Coded.n in
-    omega (arith, r.1, length-take-le (n - 0) c.code_for_tag.new.1.1.0 (omega (arith, r.0)))
+    omega (arith, r.1, length-take-le (n - 0) c.code_for_tag.new.out (omega (arith, r.0)))
 
 pub returns-in-Refused : goal.returns-in-Refused
 returns-in-Refused c = tagged_refused _ _ _ _ _ c.code_for_tag.ensures _ _ _ _ _ c.in-Refused.is
@@ -23,7 +23,7 @@ returns-in-Refused c = tagged_refused _ _ _ _ _ c.code_for_tag.ensures _ _ _ _ _
 pub returns-in-Coded : goal.returns-in-Coded
 returns-in-Coded c =
     let a = c.args in
-    let x = c.code_for_tag.new.1.1.0 in
+    let x = c.code_for_tag.new.out in
     ap (λ (y : ℕ × ℕ). (y, x)) c.check.ensures
     ∙ ap (λ (t : List ℕ). (check_answer a.schedule a.key.now a.set.now a.message.now t, x)) c.tag_of-tag.ensures
     ∙ sym (tagged_done _ _ _ _ _ c.code_for_tag.ensures a.schedule a.key.now

@@ -43,10 +43,9 @@ slice_bounds-code_check-end c = omega (
 pub returns-in-Built : goal.returns-in-Built
 unfolding tag_roundtrip
 returns-in-Built c =
-    let k = c.before.before.before.before.before.before.before.before.before.before in
-    let a = k.args in
-    let e = k.start.ensures in
-    let d = k.in-Built.is in
+    let a = c.args in
+    let e = c.start.ensures in
+    let d = c.in-Built.is in
     let s = cut_set _ _ _ _ _ _ e _ d _ c.rounds.ensures in
     let b = cut_book _ _ _ _ _ _ e _ d _ c.book_len.ensures in
     let w : (ℕ × ℕ) × List ℕ → (ℕ × ℕ) × (List ℕ × List ℕ) = λ o. (o.0, (over (key_book a.schedule a.key.now a.chain.now) a.book-1.now, o.1)) in
@@ -54,5 +53,5 @@ returns-in-Built c =
     (λ i. ((o i).0, (held_is _ _ _ _ _ _ e _ d i, (o i).1)))
     ∙ (λ i. w (coded_checked a.schedule a.key.now (take 512 a.chain.now) (s i) (b i) a.message.now a.coded-1.now))
     ∙ coded_checked_lem _ _ _ _ _ (way_built _ _ _ _ _ _ e _ d) a.message.now a.coded-1.now
-    (bytes_of_lem a.message.now (λ j h. omega (arith, k.shared_slice_known-3-1.given j))) w
+    (bytes_of_lem a.message.now (λ j h. omega (arith, c.shared_slice_known-3-1.given j))) w
     ∙ sym (way_done _ _ _ _ _ _ e _ d _ _)

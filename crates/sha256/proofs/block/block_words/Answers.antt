@@ -11,14 +11,12 @@ loop-k-init c = (omega arith, refl)
 
 pub loop-k-preserved : goal.loop-k-preserved
 loop-k-preserved c =
-    let h = c.before.before.before in
-    (omega arith, fill_turn (λ j. big_word_at h.padded-p.result (4 * j)) 64 _ _ _ h.loop-k.invariant.1 c.big_word_at.ensures (omega arith))
+    (omega arith, fill_turn (λ j. big_word_at c.padded-p.result (4 * j)) 64 _ _ _ c.loop-k.invariant.1 c.big_word_at.ensures (omega arith))
 
 pub returns : goal.returns
 unfolding block
 returns c =
-    let h = c.before in
-    let e : h.loop-k.k ≡ 16 = omega arith in
-    h.loop-k.invariant.1
-    ∙ ap (λ (k : ℕ). tab k (λ j. big_word_at h.padded-p.result (4 * j)) ++ replicate (64 - k) 0) e
-    ∙ ap (λ (p : List ℕ). block p 0 ++ replicate 48 0) h.padded-p.ensures
+    let e : c.loop-k.k ≡ 16 = omega arith in
+    c.loop-k.invariant.1
+    ∙ ap (λ (k : ℕ). tab k (λ j. big_word_at c.padded-p.result (4 * j)) ++ replicate (64 - k) 0) e
+    ∙ ap (λ (p : List ℕ). block p 0 ++ replicate 48 0) c.padded-p.ensures

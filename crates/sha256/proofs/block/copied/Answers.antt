@@ -11,15 +11,13 @@ loop-i-init c = (omega arith, refl)
 
 pub loop-i-preserved : goal.loop-i-preserved
 loop-i-preserved c =
-    let h = c.before.before in
-    (omega arith, fill_turn (λ k. get_or h.args.m.now k 0) 64 h.loop-i.p h.loop-i.i _ h.loop-i.invariant.1 refl (omega arith))
+    (omega arith, fill_turn (λ k. get_or c.args.m.now k 0) 64 c.loop-i.p c.loop-i.i _ c.loop-i.invariant.1 refl (omega arith))
 
 pub returns : goal.returns
 returns c =
-    let h = c.before in
-    let m = h.args.m.now in
+    let m = c.args.m.now in
     let n = length m in
-    let e : h.loop-i.i ≡ n = omega arith in
-    h.loop-i.invariant.1
+    let e : c.loop-i.i ≡ n = omega arith in
+    c.loop-i.invariant.1
     ∙ ap (λ (i : ℕ). tab i (λ k. get_or m k 0) ++ replicate (64 - i) 0) e
     ∙ ap (λ (l : List ℕ). l ++ replicate (64 - n) 0) (tab_is n (λ k. get_or m k 0) m refl (λ k b. refl))

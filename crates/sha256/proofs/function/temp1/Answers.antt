@@ -6,12 +6,11 @@ use Rattle.sha256.proofs.function.temp1.Goals as goal
 pub returns : goal.returns
 unfolding temp1 add
 returns c =
-    let s = c.before.before.before.before in
     rw (
       c.wrapping_add_u32-2.ensures.value,
       c.wrapping_add_u32.ensures.value,
       c.wrapping_add_u32-t.ensures.value,
       c.ch.ensures,
-      s.wrapping_add_u32-s.ensures.value,
-      s.turned.ensures,
+      c.wrapping_add_u32-s.ensures.value,
+      c.turned.ensures,
     )

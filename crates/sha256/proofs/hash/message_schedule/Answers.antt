@@ -10,12 +10,10 @@ loop-n-init c = (omega arith, sym (take-append-drop 16 _))
 
 pub loop-n-preserved : goal.loop-n-preserved
 loop-n-preserved c =
-    let h = c.before.before in
-    let m = h.args.m in
-    let turn = schedule_turn m h.loop-n.w h.loop-n.n h.well_formed.0.1.0.1 c.loop-n-test.true h.loop-n.invariant.1 in
+    let m = c.args.m in
+    let turn = schedule_turn m c.loop-n.w c.loop-n.n c.well_formed.0.1.0.1 c.loop-n-test.true c.loop-n.invariant.1 in
     (omega arith, turn c.schedule_word.result c.schedule_word.ensures)
 
 pub returns : goal.returns
 returns c =
-    let h = c.before in
-    schedule_full h.args.m h.loop-n.w h.loop-n.n h.well_formed.0.1.0.1 (omega arith) h.loop-n.invariant.1
+    schedule_full c.args.m c.loop-n.w c.loop-n.n c.well_formed.0.1.0.1 (omega arith) c.loop-n.invariant.1

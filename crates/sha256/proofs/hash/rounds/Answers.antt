@@ -10,9 +10,8 @@ loop-q-init c = (omega arith, refl)
 
 pub loop-q-preserved : goal.loop-q-preserved
 loop-q-preserved c =
-    let h = c.before.before.before.before.before in
-    let q = h.loop-q.q in
-    let p0 = rounds_more _ _ _ _ (4 * q) (4 * q + 1) (omega arith) h.loop-q.invariant.1 c.round-a.ensures in
+    let q = c.loop-q.q in
+    let p0 = rounds_more _ _ _ _ (4 * q) (4 * q + 1) (omega arith) c.loop-q.invariant.1 c.round-a.ensures in
     let p1 = rounds_more _ _ _ _ (4 * q + 1) (4 * q + 2) (omega arith) p0 c.round-b.ensures in
     let p2 = rounds_more _ _ _ _ (4 * q + 2) (4 * q + 3) (omega arith) p1 c.round-c.ensures in
     let p3 = rounds_more _ _ _ _ (4 * q + 3) (4 * (q + 1)) (omega arith) p2 c.round-d.ensures in
@@ -20,6 +19,5 @@ loop-q-preserved c =
 
 pub returns : goal.returns
 returns c =
-    let h = c.before in
-    let e : h.loop-q.q ≡ 16 = omega arith in
-    h.loop-q.invariant.1 ∙ ap (λ (n : ℕ). rounds h.args.w (4 * n) h.args.h) e
+    let e : c.loop-q.q ≡ 16 = omega arith in
+    c.loop-q.invariant.1 ∙ ap (λ (n : ℕ). rounds c.args.w (4 * n) c.args.h) e

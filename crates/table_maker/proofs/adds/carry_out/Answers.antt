@@ -5,5 +5,4 @@ use Rattle.table_maker.proofs.adds.carry_out.Goals as goal
 
 pub returns : goal.returns
 returns c =
-    let s = c.before.before in
-    (ap (bit_xor s.args.c) c.mask_out.ensures.0, xor_lt 1 _ _ s.requires.1 c.mask_out.ensures.1)
+    (ap (bit_xor c.args.c) c.mask_out.ensures.0, xor_lt 1 _ _ c.requires.1 c.mask_out.ensures.1)

@@ -12,9 +12,8 @@ loop-q-init c = (omega arith, refl)
 
 pub loop-q-preserved : goal.loop-q-preserved
 loop-q-preserved c =
-    let s = c.before.before in
-    let a = s.args in
-    fill_next (keyed_by a.s.now a.at a.k) 16 s.loop-q.b s.loop-q.q _ s.loop-q.invariant refl (omega arith)
+    let a = c.args in
+    fill_next (keyed_by a.s.now a.at a.k) 16 c.loop-q.b c.loop-q.q _ c.loop-q.invariant refl (omega arith)
 
 pub returns : goal.returns
 returns c = fill_done _ 16 _ c.loop-q.q c.loop-q.invariant (omega arith)

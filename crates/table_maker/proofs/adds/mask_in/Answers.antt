@@ -7,10 +7,8 @@ use Rattle.table_maker.proofs.adds.mask_in.Goals as goal
 
 pub returns-then-p-eq0 : goal.returns-then-p-eq0
 returns-then-p-eq0 c =
-    let s = c.before in
-    (mask_none s.args.round.now s.args.p (omega (arith, c.if-p-eq0.true)), lit< tt)
+    (mask_none c.args.round.now c.args.p (omega (arith, c.if-p-eq0.true)), lit< tt)
 
 pub returns : goal.returns
 returns c =
-    let s = c.before.before in
-    (mask_there s.args.round.now s.args.p (λ e. c.if-p-eq0.false (omega arith)), s.requires.1.masks (384 + s.args.p) (omega arith) (omega arith))
+    (mask_there c.args.round.now c.args.p (λ e. c.if-p-eq0.false (omega arith)), c.requires.1.masks (384 + c.args.p) (omega arith) (omega arith))

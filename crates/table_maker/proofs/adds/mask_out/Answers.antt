@@ -5,6 +5,5 @@ use Rattle.table_maker.proofs.adds.mask_out.Goals as goal
 
 pub returns : goal.returns
 returns c =
-    let s = c.before in
-    let p = s.args.p in
-    (mask_after s.args.round.now p _ (omega arith), s.requires.1.masks _ (omega arith) (omega arith))
+    let p = c.args.p in
+    (mask_after c.args.round.now p _ (omega arith), c.requires.1.masks _ (omega arith) (omega arith))

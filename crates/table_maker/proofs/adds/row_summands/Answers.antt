@@ -13,15 +13,12 @@ loop-x-init c = (omega arith, refl)
 
 pub summand-requires : goal.summand-requires
 summand-requires c =
-    let s = c.before.before in
-    let e = s.before.before in
-    (e.requires.1 (e.args.at + s.loop-x.x % 16), e.requires.2, omega arith, e.requires.3)
+    (c.requires.1 (c.args.at + c.loop-x.x % 16), c.requires.2, omega arith, c.requires.3)
 
 pub loop-x-preserved : goal.loop-x-preserved
 loop-x-preserved c =
-    let s = c.before.before.before in
-    let a = s.args in
-    fill_next (summands a.s.now a.at a.k a.m) 32 s.loop-x.a s.loop-x.x _ s.loop-x.invariant c.summand.ensures (omega arith)
+    let a = c.args in
+    fill_next (summands a.s.now a.at a.k a.m) 32 c.loop-x.a c.loop-x.x _ c.loop-x.invariant c.summand.ensures (omega arith)
 
 pub returns : goal.returns
 returns c = fill_done _ 32 _ c.loop-x.x c.loop-x.invariant (omega arith)

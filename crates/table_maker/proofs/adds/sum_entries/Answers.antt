@@ -15,17 +15,14 @@ loop-s-init c = (omega arith, refl)
 
 pub entry-requires : goal.entry-requires
 entry-requires c =
-    let s = c.before.before.before in
-    let e = s.before.before in
-    (e.requires.1.codings (16 * e.args.p + s.loop-s.s % 16) (omega arith), c.carry_out-c.ensures.1)
+    (c.requires.1.codings (16 * c.args.p + c.loop-s.s % 16) (omega arith), c.carry_out-c.ensures.1)
 
 pub loop-s-preserved : goal.loop-s-preserved
 unfolding add_entry
 loop-s-preserved c =
-    let s = c.before.before.before.before in
-    let a = s.args in
-    fill_next (sum_entries a.round.now a.p) 32 s.loop-s.e s.loop-s.s _ s.loop-s.invariant
-    (c.entry.ensures ∙ ap (λ (x : ℕ). 16 * x + get_or a.round.now (16 * a.p + s.loop-s.s % 16) 0) c.carry_out-c.ensures.0) (omega arith)
+    let a = c.args in
+    fill_next (sum_entries a.round.now a.p) 32 c.loop-s.e c.loop-s.s _ c.loop-s.invariant
+    (c.entry.ensures ∙ ap (λ (x : ℕ). 16 * x + get_or a.round.now (16 * a.p + c.loop-s.s % 16) 0) c.carry_out-c.ensures.0) (omega arith)
 
 pub returns : goal.returns
 returns c = fill_done _ 32 _ c.loop-s.s c.loop-s.invariant (omega arith)

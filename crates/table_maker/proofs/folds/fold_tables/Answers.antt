@@ -16,24 +16,19 @@ loop-p-init c = (omega arith, refl, refl, refl)
 
 pub fold_table-requires : goal.fold_table-requires
 fold_table-requires c =
-    let s = c.before.before in
-    let e = s.before.before.before.before.before in
-    (omega arith, e.requires.0, e.requires.1, e.requires.2, e.requires.3, e.requires.4, length_part _ s.loop-p.at 256 (omega arith))
+    (omega arith, c.requires.0, c.requires.1, c.requires.2, c.requires.3, c.requires.4, length_part _ c.loop-p.at 256 (omega arith))
 
 pub loop-p-preserved : goal.loop-p-preserved
 loop-p-preserved c =
-    let call = c.before.before in
-    let s = call.before.before.before in
-    let a = s.args in
-    let at = s.loop-p.at in
+    let a = c.args in
+    let at = c.loop-p.at in
     parts_next (made_fold a.s.now a.u.now a.first.now a.k) 256 32 a.out-1.now
-    (length_fold a.s.now a.u.now a.first.now a.k) s.loop-p.out _ at s.loop-p.p s.loop-p.invariant
-    (omega arith) call.fold_table.ensures (same_len_mid at (at + 256 - at) s.loop-p.out call.fold_table.new.1.1.1.1.1.0 call.fold_table.auto.1.1.1.1.1.0)
+    (length_fold a.s.now a.u.now a.first.now a.k) c.loop-p.out _ at c.loop-p.p c.loop-p.invariant
+    (omega arith) c.fold_table.ensures (same_len_mid at (at + 256 - at) c.loop-p.out c.fold_table.new.out c.fold_table.auto.out)
 
 pub returns : goal.returns
 returns c =
-    let s = c.before in
-    parts_done _ 256 32 _ s.loop-p.out s.loop-p.at s.loop-p.p s.loop-p.invariant (omega arith) s.requires.5
+    parts_done _ 256 32 _ c.loop-p.out c.loop-p.at c.loop-p.p c.loop-p.invariant (omega arith) c.requires.5
 
 pub shape_of-out : goal.shape_of-out
 shape_of-out c = c.loop-p.invariant.2

@@ -11,23 +11,17 @@ loop-q-init c = (omega arith, refl, refl)
 
 pub bounds-e-at : goal.bounds-e-at
 bounds-e-at c =
-    let s = c.before.before.before.before in
-    let e = s.before.before.before.before.before in
-    row_inside ◌+◌ e.args.e.now e.args.s e.args.b.now e.args.out.now _ _ s.loop-q.q s.wide-at.ensures.0 c.wide.ensures.0
-    (e.requires.2 s.loop-q.q (omega arith))
+    row_inside ◌+◌ c.args.e.now c.args.s c.args.b.now c.args.out.now _ _ c.loop-q.q c.wide-at.ensures.0 c.wide.ensures.0
+    (c.requires.2 c.loop-q.q (omega arith))
 
 pub loop-q-preserved : goal.loop-q-preserved
 loop-q-preserved c =
-    let s = c.before.before.before.before in
-    let e = s.before.before.before.before.before in
-    row_next ◌+◌ e.args.e.now e.args.s e.args.b.now e.args.out.now _ _ s.loop-q.q s.wide-at.ensures.0 c.wide.ensures.0
-    s.loop-q.out s.loop-q.invariant (omega arith) e.requires.1
+    row_next ◌+◌ c.args.e.now c.args.s c.args.b.now c.args.out.now _ _ c.loop-q.q c.wide-at.ensures.0 c.wide.ensures.0
+    c.loop-q.out c.loop-q.invariant (omega arith) c.requires.1
 
 pub returns : goal.returns
 returns c =
-    let s = c.before in
-    let e = s.before.before.before.before.before in
-    row_done ◌+◌ e.args.e.now e.args.s e.args.b.now e.args.out.now s.loop-q.out s.loop-q.q s.loop-q.invariant (omega arith) e.requires.1
+    row_done ◌+◌ c.args.e.now c.args.s c.args.b.now c.args.out.now c.loop-q.out c.loop-q.q c.loop-q.invariant (omega arith) c.requires.1
 
 pub shape_of-out : goal.shape_of-out
 shape_of-out c = c.loop-q.invariant.1

@@ -15,25 +15,19 @@ loop-x-init c = (search rules, refl, refl, refl)
 
 pub sum_row-requires : goal.sum_row-requires
 sum_row-requires c =
-    let s = c.before.before.before in
-    let e = s.before.before.before.before.before in
-    (e.requires.0, length_part _ s.loop-x.at 16 (omega arith), e.requires.2 s.loop-x.x (omega arith))
+    (c.requires.0, length_part _ c.loop-x.at 16 (omega arith), c.requires.2 c.loop-x.x (omega arith))
 
 pub loop-x-preserved : goal.loop-x-preserved
 loop-x-preserved c =
-    let call = c.before.before in
-    let s = call.before.before.before.before in
-    let a = s.args in
-    let at = s.loop-x.at in
-    table_next ◌+◌ a.e.now a.a.now a.b.now a.out-1.now s.loop-x.out _ at s.loop-x.x s.loop-x.invariant (omega arith) call.sum_row.ensures
-    (same_len_mid at (at + 16 - at) s.loop-x.out call.sum_row.new.1.1.1.0 call.sum_row.auto.1.1.1.0)
+    let a = c.args in
+    let at = c.loop-x.at in
+    table_next ◌+◌ a.e.now a.a.now a.b.now a.out-1.now c.loop-x.out _ at c.loop-x.x c.loop-x.invariant (omega arith) c.sum_row.ensures
+    (same_len_mid at (at + 16 - at) c.loop-x.out c.sum_row.new.out c.sum_row.auto.out)
 
 pub returns : goal.returns
 returns c =
-    let s = c.before in
-    let e = s.before.before.before.before.before in
-    table_done ◌+◌ e.args.e.now e.args.a.now e.args.b.now e.args.out.now s.loop-x.out s.loop-x.at s.loop-x.x
-    s.loop-x.invariant (omega arith) e.requires.1
+    table_done ◌+◌ c.args.e.now c.args.a.now c.args.b.now c.args.out.now c.loop-x.out c.loop-x.at c.loop-x.x
+    c.loop-x.invariant (omega arith) c.requires.1
 
 pub shape_of-out : goal.shape_of-out
 shape_of-out c = c.loop-x.invariant.2

@@ -12,9 +12,8 @@ loop-q-init c = (omega arith, refl)
 
 pub loop-q-preserved : goal.loop-q-preserved
 loop-q-preserved c =
-    let s = c.before.before.before in
-    let a = s.args in
-    fill_next (lower_parts a.s.now a.at a.i) 16 s.loop-q.b s.loop-q.q _ s.loop-q.invariant c.lower_part.ensures (omega arith)
+    let a = c.args in
+    fill_next (lower_parts a.s.now a.at a.i) 16 c.loop-q.b c.loop-q.q _ c.loop-q.invariant c.lower_part.ensures (omega arith)
 
 pub returns : goal.returns
 returns c = fill_done _ 16 _ c.loop-q.q c.loop-q.invariant (omega arith)

@@ -7,9 +7,5 @@ use Rattle.table_maker.proofs.turns.turn_table.Goals as goal
 
 pub returns : goal.returns
 returns c =
-    let d = c.before.before in
-    let at_lower_at = d.before.before.before in
-    let at_upper_at = at_lower_at.before in
-    let e = at_upper_at.before.before.before.before in
-    d.turned_table.ensures
-    ∙ turn_made _ e.args.after.now _ e.args.p _ _ (part_end e.args.after.now (16 * e.args.p)) at_upper_at.upper_at.ensures.0 at_lower_at.lower_at.ensures.0
+    c.turned_table.ensures
+    ∙ turn_made _ c.args.after.now _ c.args.p _ _ (part_end c.args.after.now (16 * c.args.p)) c.upper_at.ensures.0 c.lower_at.ensures.0

@@ -13,15 +13,12 @@ loop-q-init c = (omega arith, refl)
 
 pub upper_part-requires : goal.upper_part-requires
 upper_part-requires c =
-    let s = c.before.before in
-    let e = s.before.before in
-    e.requires.1 (e.args.at + s.loop-q.q)
+    c.requires.1 (c.args.at + c.loop-q.q)
 
 pub loop-q-preserved : goal.loop-q-preserved
 loop-q-preserved c =
-    let s = c.before.before.before in
-    let a = s.args in
-    fill_next (upper_parts a.s.now a.at a.i) 16 s.loop-q.a s.loop-q.q _ s.loop-q.invariant c.upper_part.ensures (omega arith)
+    let a = c.args in
+    fill_next (upper_parts a.s.now a.at a.i) 16 c.loop-q.a c.loop-q.q _ c.loop-q.invariant c.upper_part.ensures (omega arith)
 
 pub returns : goal.returns
 returns c = fill_done _ 16 _ c.loop-q.q c.loop-q.invariant (omega arith)

@@ -14,16 +14,13 @@ loop-l-init c = (omega arith, refl)
 
 pub step-requires : goal.step-requires
 step-requires c =
-    let h = c.before.before.before in
-    (omega arith, rounds_block _ _ _ _ (array_block _ _ h.well_formed.1.1.0) h.loop-l.invariant.1)
+    (omega arith, rounds_block _ _ _ _ (array_block _ _ c.well_formed.1.1.0) c.loop-l.invariant.1)
 
 pub loop-l-preserved : goal.loop-l-preserved
 loop-l-preserved c =
-    let h = c.before.before.before.before in
-    (omega arith, rounds_turn _ _ _ _ _ h.loop-l.invariant.1 c.step.ensures)
+    (omega arith, rounds_turn _ _ _ _ _ c.loop-l.invariant.1 c.step.ensures)
 
 pub returns : goal.returns
 returns c =
-    let h = c.before in
-    let e : h.loop-l.l ≡ h.args.n = omega arith in
-    h.loop-l.invariant.1 ∙ ap (λ (k : ℕ). table_rounds (round_at h.args.body.now) k h.args.x) e
+    let e : c.loop-l.l ≡ c.args.n = omega arith in
+    c.loop-l.invariant.1 ∙ ap (λ (k : ℕ). table_rounds (round_at c.args.body.now) k c.args.x) e

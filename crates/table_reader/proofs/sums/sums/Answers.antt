@@ -12,8 +12,7 @@ loop-m-init c = (omega arith, sums_first _ _ _ refl)
 pub loop-m-preserved : goal.loop-m-preserved
 unfolding three
 loop-m-preserved c =
-    let h = c.before.before.before.before in
-    (omega arith, sums_next _ _ _ _ _ _ _ _ _ _ _ _ _ _ (omega arith) h.loop-m.invariant.1 c.add_two-w0.ensures c.add_two-w1.ensures c.add_two-w2.ensures)
+    (omega arith, sums_next _ _ _ _ _ _ _ _ _ _ _ _ _ _ (omega arith) c.loop-m.invariant.1 c.add_two-w0.ensures c.add_two-w1.ensures c.add_two-w2.ensures)
 
 pub returns : goal.returns
 returns c = three_full _ _ _ _ (omega arith) c.loop-m.invariant.1.are

@@ -11,13 +11,9 @@ loop-m-init c = (omega arith, turns_first _ _ c.requires.1.size)
 pub loop-m-preserved : goal.loop-m-preserved
 unfolding three four
 loop-m-preserved c =
-    let at_turn_two2 = c.before in
-    let at_turn_two = at_turn_two2.before in
-    let l = at_turn_two.before.before.before in
-    let e = l.before.before in
-    let below : l.loop-m.m < 4 = omega arith in (
+    let below : c.loop-m.m < 4 = omega arith in (
       omega arith,
-      turns_step _ _ _ _ _ _ _ _ below e.requires.1.bytes e.requires.2 l.loop-m.invariant.1 at_turn_two.turn_two.ensures at_turn_two2.turn_two-in-loop-m.ensures
+      turns_step _ _ _ _ _ _ _ _ below c.requires.1.bytes c.requires.2 c.loop-m.invariant.1 c.turn_two.ensures c.turn_two-in-loop-m.ensures
           c.turn_two-in-loop-m-2.ensures,
     )
 
