@@ -35,4 +35,4 @@ returns c =
     let r = ap (λ (n : ℕ). 4 * (n / 4)) c.rounds-q.ensures ∙ rounds_fours c.args.size in
     let whole : (y y₀ : List ℕ) → backward rows (4 * c.loop-q.q) y ≡ backward rows (4 * (c.rounds-q.result / 4)) y₀ → y ≡ backward rows (rounds c.args.size) y₀ =
     λ y y₀ e. ap (λ (n : ℕ). backward rows n y) z ∙ e ∙ ap (λ (n : ℕ). backward rows n y₀) r in
-    (whole c.loop-q.a x.a-1 c.loop-q.invariant.2, whole c.loop-q.b x.b-1 c.loop-q.invariant.3, whole c.loop-q.c x.c-1 c.loop-q.invariant.4, whole c.loop-q.d x.d-1 c.loop-q.invariant.5)
+    (whole c.loop-q.a x.a c.loop-q.invariant.2, whole c.loop-q.b x.b c.loop-q.invariant.3, whole c.loop-q.c x.c c.loop-q.invariant.4, whole c.loop-q.d x.d c.loop-q.invariant.5)

@@ -98,7 +98,7 @@ loop-j-preserved c =
     let k = 4 * c.loop-j.j in
     let f = imaged a.table.now in
     let block = opened_words a.rows c.requires.0 (rounds a.size) f (block_is c) a.iv.now a.sealed.now in
-    let turn = open_turn (opened c) (sized c) a.out-1.now in
+    let turn = open_turn (opened c) (sized c) a.out.now in
     let next : (n : ℕ) → words4 (f (block_of a.sealed.now n)) ≡ words4 (f (block_before a.iv.now a.sealed.now (n + 1))) =
     λ n. ap (λ (b : List ℕ). words4 (f b)) (before_more a.iv.now a.sealed.now n) in
     let b1 = block k _ _ _ _ c.before_words-prior.ensures c.decoded_words-a.ensures c.decipher_four-y.ensures.0 refl in
@@ -111,7 +111,7 @@ loop-j-preserved c =
     let o4 = c.put_xored-in-loop-j-3.ensures ∙ turn (k + 1 + 1 + 1) _ _ o3 b4 in
     let e : k + 1 + 1 + 1 + 1 ≡ 4 * (c.loop-j.j + 1) = omega arith in (
       omega arith,
-      o4 ∙ (λ i. chunks (e i) (opened c) ++ drop (16 * e i) a.out-1.now),
+      o4 ∙ (λ i. chunks (e i) (opened c) ++ drop (16 * e i) a.out.now),
       c.put_xored-in-loop-j-3.auto.out ∙ c.put_xored-in-loop-j-2.auto.out ∙ c.put_xored-in-loop-j.auto.out ∙ c.put_xored.auto.out ∙ c.loop-j.invariant.2,
     )
 
@@ -120,7 +120,7 @@ loop-k-init c =
     let a = c.args in
     let e : 4 * c.loop-j.j ≡ 4 * (a.n / 4) = omega arith in (
       omega arith,
-      own_rest (opened c) (sized c) a.out-1.now (4 * (a.n / 4)) c.loop-j.out (c.loop-j.invariant.1 ∙ (λ i. chunks (e i) (opened c) ++ drop (16 * e i) a.out-1.now)),
+      own_rest (opened c) (sized c) a.out.now (4 * (a.n / 4)) c.loop-j.out (c.loop-j.invariant.1 ∙ (λ i. chunks (e i) (opened c) ++ drop (16 * e i) a.out.now)),
       refl,
     )
 
@@ -142,4 +142,4 @@ returns c =
     c.loop-k.invariant.1
     ∙ (λ i. chunks (e i) (opened c) ++ drop (16 * e i) c.loop-j.out)
     ∙ ap (λ (r : List ℕ). chunks a.n (opened c) ++ r)
-    (after (opened c) (sized c) a.out-1.now (4 * c.loop-j.j) a.n c.loop-j.out (omega arith) c.loop-j.invariant.1)
+    (after (opened c) (sized c) a.out.now (4 * c.loop-j.j) a.n c.loop-j.out (omega arith) c.loop-j.invariant.1)

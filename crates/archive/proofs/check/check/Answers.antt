@@ -45,7 +45,7 @@ pub code_block-requires : goal.code_block-requires
 code_block-requires c =
     let s = c.args.set.now in
     let v = set_done s _ c.check_set.ensures c.in_default-check_set.is in
-    (omega (arith, v.size-1), low_set s v.codings)
+    (omega (arith, v.size), low_set s v.codings)
 
 pub returns-then-same : goal.returns-then-same
 returns-then-same c =

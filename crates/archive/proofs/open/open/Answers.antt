@@ -140,7 +140,7 @@ overflow_sub-v c =
     let a = c.args in
     let good = sym c.bad_text.ensures ∙ c.if-bad_text.false in
     let last = c.open_block-last.ensures in
-    few a.schedule a.key.now a.set.now a.iv.now a.file.now a.out-1.now _ _ known set_is c.if-iv-ne-BLOCK.false good c.if-out-n.false
+    few a.schedule a.key.now a.set.now a.iv.now a.file.now a.out.now _ _ known set_is c.if-iv-ne-BLOCK.false good c.if-out-n.false
     texts.0 texts.1 _ _ _ _ c.key_rows-rows.ensures c.decodings.ensures last c.padding-v.ensures c.if-v-eq0.false in
     few_is
 
@@ -178,7 +178,7 @@ overflow_sub-result c =
     let a = c.args in
     let good = sym c.bad_text.ensures ∙ c.if-bad_text.false in
     let last = c.open_block-last.ensures in
-    few a.schedule a.key.now a.set.now a.iv.now a.file.now a.out-1.now _ _ known set_is c.if-iv-ne-BLOCK.false good c.if-out-n.false
+    few a.schedule a.key.now a.set.now a.iv.now a.file.now a.out.now _ _ known set_is c.if-iv-ne-BLOCK.false good c.if-out-n.false
     texts.0 texts.1 _ _ _ _ c.key_rows-rows.ensures c.decodings.ensures last c.padding-v.ensures c.if-v-eq0.false in
     omega (arith, whole.0, whole.2, few_is)
 

@@ -53,7 +53,7 @@ loop-l-preserved c =
     let a = c.args in
     let h = c.rounds-r.ensures in
     let at = c.loop-l.at in
-    parts_next (book_round (rounds a.size) a.rows a.chain.now) 18432 (rounds a.size) a.out-1.now
+    parts_next (book_round (rounds a.size) a.rows a.chain.now) 18432 (rounds a.size) a.out.now
     (λ l. round_size (round_codings (rounds a.size) a.chain.now l) (get_or a.rows l [])) c.loop-l.out _ at c.loop-l.l c.loop-l.invariant (omega arith)
     c.round_at.ensures
     (same_len_mid at (at + 18432 - at) c.loop-l.out c.round_at.new.out c.round_at.auto.out)

@@ -21,8 +21,8 @@ loop-k-preserved c =
     let y = c.pass-y.ensures in
     let p = c.put_block in (
       omega arith,
-      seal_end a.body.now a.iv a.coded.now a.out-1.now l.k l.x _ _ l.out-1 l.invariant.1 m y l.invariant.2,
-      p.ensures ∙ seal_turn a.body.now a.iv a.coded.now a.out-1.now l.k l.x _ _ l.out-1 l.invariant.1 m y l.invariant.2,
+      seal_end a.body.now a.iv a.coded.now a.out.now l.k l.x _ _ l.out l.invariant.1 m y l.invariant.2,
+      p.ensures ∙ seal_turn a.body.now a.iv a.coded.now a.out.now l.k l.x _ _ l.out l.invariant.1 m y l.invariant.2,
       p.auto.0 ∙ l.invariant.3,
     )
 
@@ -30,4 +30,4 @@ pub returns : goal.returns
 returns c =
     let a = c.args in
     let e : c.loop-k.k ≡ a.n = omega arith in
-    c.loop-k.invariant.2 ∙ ap (λ (k : ℕ). done a.body.now a.iv a.coded.now a.out-1.now k ++ drop (16 * k) a.out-1.now) e
+    c.loop-k.invariant.2 ∙ ap (λ (k : ℕ). done a.body.now a.iv a.coded.now a.out.now k ++ drop (16 * k) a.out.now) e

@@ -27,8 +27,8 @@ room : (c : goal.In_default)
 room c =
     let r = c.before.before in
     let g = r.before.before in
-    let v = g.loop-seen.invariant in
-    L.turn_room _ _ _ v.0 _ g.goes_on.ensures r.loop-seen-test.true _ _ _ r.record_at-seen.ensures c.in_default.is
+    let v = g.before.loop.invariant in
+    L.turn_room _ _ _ v.0 _ g.goes_on.ensures r.before.if1.true _ _ _ r.record_at.ensures c.in_default.is
 
 pub bounds-kinds-k : goal.bounds-kinds-k
 bounds-kinds-k c =

@@ -5,5 +5,5 @@ use Rattle.inkfile.proofs.write.put_fixed.Goals as goal
 pub returns : goal.returns
 returns c =
     let a = c.args in
-    fixed_over a.out-1.now a.number.now a.iv.now a.sealed.now a.tag.now _ _ _ _ _ _ _ _ c.put_record-a.ensures c.put_record-b.ensures
+    fixed_over a.out.now a.number.now a.iv.now a.sealed.now a.tag.now _ _ _ _ _ _ _ _ c.put_record-a.ensures c.put_record-b.ensures
     c.put_record-c.ensures c.put_record.ensures c.requires

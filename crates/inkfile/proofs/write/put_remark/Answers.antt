@@ -11,7 +11,7 @@ pub returns-then-kinds-i : goal.returns-then-kinds-i
 returns-then-kinds-i c =
     let a = c.args in
     let z = size_none a.kinds.now a.i (length a.body.now) c.if-kinds-i.true in
-    (omega arith, nothing_overlaid a.out-1.now a.at _ (bytes_none a.kinds.now a.i a.body.now c.if-kinds-i.true))
+    (omega arith, nothing_overlaid a.out.now a.at _ (bytes_none a.kinds.now a.i a.body.now c.if-kinds-i.true))
 
 pub put_record-requires : goal.put_record-requires
 put_record-requires c =
@@ -22,4 +22,4 @@ returns c =
     let a = c.args in
     let v = c.put_record.ensures in
     let z = size_given a.kinds.now a.i (length a.body.now) c.if-kinds-i.false in
-    (omega (arith, v.0, z), v.1 ∙ ap (overlaid a.out-1.now a.at) (sym (bytes_given _ _ _ c.if-kinds-i.false)))
+    (omega (arith, v.0, z), v.1 ∙ ap (overlaid a.out.now a.at) (sym (bytes_given _ _ _ c.if-kinds-i.false)))

@@ -71,7 +71,7 @@ put_remarks-requires c =
     let z = sizes _ _ _ _ _ _ _ _ _ allowed in
     let f = length_fixed a.number.now a.iv.now a.sealed.now a.tag.now in
     let l = ap length c.put_fixed-at.ensures.1
-    ∙ length_overlaid a.out-1.now 0 (fixed_bytes a.number.now a.iv.now a.sealed.now a.tag.now) (omega (arith, f, z.number8, z.iv16, z.tag16, c.if-out-n.false)) in
+    ∙ length_overlaid a.out.now 0 (fixed_bytes a.number.now a.iv.now a.sealed.now a.tag.now) (omega (arith, f, z.number8, z.iv16, z.tag16, c.if-out-n.false)) in
     let s0 = c.remark_size.ensures in
     let s1 = c.remark_size-2.ensures in
     let s2 = c.remark_size-3.ensures in

@@ -40,7 +40,7 @@ returns-then-given_coding c =
     let p = planned a.rule a.set.now in
     let s = drop a.start a.random.now in (
       omega (arith, set_use_given p a.k s c.requires.4 known),
-      c.put_block.ensures ∙ put_whole a.out-1.now c.block_at-coding.result c.requires.3 ∙ c.block_at-coding.ensures ∙ sym (free_given p a.k s known),
+      c.put_block.ensures ∙ put_whole a.out.now c.block_at-coding.result c.requires.3 ∙ c.block_at-coding.ensures ∙ sym (free_given p a.k s known),
     )
 
 pub draw_coding-requires : goal.draw_coding-requires

@@ -63,7 +63,7 @@ returns-then-fixed_coding c =
     let a = c.args in
     let p = planned a.rule a.set.now in
     let s = drop a.start a.random.now in
-    let out = a.out-1.now in (
+    let out = a.out.now in (
       omega (arith, set_use_fixed p a.k s known),
       c.put_block.ensures
           ∙ ap (λ (x : List ℕ). take (16 * a.k) out ++ x ++ drop (16 * a.k + 16) out) (place_fixed p a.k out c.block_at-coding.result (free_coding p a.k s) known c.block_at-coding.ensures),
@@ -78,7 +78,7 @@ free_coding-requires c =
 pub shape_of-out : goal.shape_of-out
 shape_of-out c =
     let a = c.args in
-    same_len_mid (16 * a.k) (16 * a.k + 16 - 16 * a.k) a.out-1.now c.free_coding.new.out c.free_coding.auto.out
+    same_len_mid (16 * a.k) (16 * a.k + 16 - 16 * a.k) a.out.now c.free_coding.new.out c.free_coding.auto.out
 
 pub returns : goal.returns
 returns c =
@@ -87,7 +87,7 @@ returns c =
     let a = c.args in
     let p = planned a.rule a.set.now in
     let s = drop a.start a.random.now in
-    let out = a.out-1.now in
+    let out = a.out.now in
     let x = c.free_coding.new.out in (
       c.free_coding.ensures.0,
       put_lent out x (16 * a.k)

@@ -13,7 +13,7 @@ use Rattle.maker.proofs.make.make.Goals as goal
 pub returns-then-out-end : goal.returns-then-out-end
 returns-then-out-end c =
     let a = c.args in
-    sym (made_room (planned a.rule a.set.now) a.size a.random.now a.out-1.now (omega (arith, c.chain_len-end.ensures, c.if-out-end.true)))
+    sym (made_room (planned a.rule a.set.now) a.size a.random.now a.out.now (omega (arith, c.chain_len-end.ensures, c.if-out-end.true)))
 
 pub chain_draws-requires : goal.chain_draws-requires
 chain_draws-requires c =
@@ -25,7 +25,7 @@ returns-then-random-chain_draws c =
     let a = c.args in
     let p = planned a.rule a.set.now in
     let n = c.chain_draws.ensures ∙ ap (λ (k : ℕ). chain_draws p k a.random.now) c.rounds.ensures in
-    sym (made_ran_out p a.size a.random.now a.out-1.now (omega (arith, c.chain_len-end.ensures, c.if-out-end.false)) (omega (arith, n, c.if-random-chain_draws.true)))
+    sym (made_ran_out p a.size a.random.now a.out.now (omega (arith, c.chain_len-end.ensures, c.if-out-end.false)) (omega (arith, n, c.if-random-chain_draws.true)))
 
 pub draw_chain-drawn-requires : goal.draw_chain-drawn-requires
 draw_chain-drawn-requires c = (
@@ -39,5 +39,5 @@ returns c =
     let a = c.args in
     let p = planned a.rule a.set.now in
     let n = c.chain_draws.ensures ∙ ap (λ (k : ℕ). chain_draws p k a.random.now) c.rounds.ensures in
-    made_front p a.size a.random.now a.out-1.now (omega (arith, c.chain_len-end.ensures, c.if-out-end.false)) (omega (arith, n, c.if-random-chain_draws.false))
+    made_front p a.size a.random.now a.out.now (omega (arith, c.chain_len-end.ensures, c.if-out-end.false)) (omega (arith, n, c.if-random-chain_draws.false))
     c.chain_len-end.result c.draw_chain-drawn.result _ c.chain_len-end.ensures c.draw_chain-drawn.ensures.0 c.draw_chain-drawn.ensures.1

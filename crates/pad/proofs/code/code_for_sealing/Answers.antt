@@ -12,14 +12,14 @@ pub returns-in-Refused : goal.returns-in-Refused
 returns-in-Refused c =
     let a = c.args in
     let m = a.message.now in
-    answer_refused 0 (length (padded_for_sealing m)) a.u.now m (padded_for_sealing m) a.out-1.now (length m + sealing_added (length m)) (sealing_length m) _
+    answer_refused 0 (length (padded_for_sealing m)) a.u.now m (padded_for_sealing m) a.out.now (length m + sealing_added (length m)) (sealing_length m) _
     c.admit.ensures _ c.in-Refused.is
 
 pub code_text-requires : goal.code_text-requires
 code_text-requires c =
     let a = c.args in
     let n = length a.message.now in
-    let h = admitted_low a.u.now n (n + sealing_added n) (length a.out-1.now) _ c.admit.ensures
+    let h = admitted_low a.u.now n (n + sealing_added n) (length a.out.now) _ c.admit.ensures
     c.in_default.is in
     (h.0, h.1, omega (arith, h.2, front_length (sealing_added n) (replicate 16 c.narrow-tail.result) (omega arith)))
 
@@ -28,7 +28,7 @@ returns c =
     let a = c.args in
     let m = a.message.now in
     let v = c.narrow-tail in
-    answer_coded 0 (length (padded_for_sealing m)) a.u.now m (padded_for_sealing m) a.out-1.now (length m + sealing_added (length m)) (sealing_length m) _
+    answer_coded 0 (length (padded_for_sealing m)) a.u.now m (padded_for_sealing m) a.out.now (length m + sealing_added (length m)) (sealing_length m) _
     c.admit.ensures _ _ (length m / 16 + 1) _ _
     c.in_default.is
     (sealing_tail m v.result v.ensures) (sealing_blocks m) c.code_text.ensures

@@ -17,7 +17,7 @@ returns-in-Refused c =
     let a = c.args in
     let t = c.tag_added-added in
     let m = a.message.now in
-    answer_refused (0, 0) (length (padded_for_tag m), kind_of (length m)) a.u.now m (padded_for_tag m) a.out-1.now (length m + t.result)
+    answer_refused (0, 0) (length (padded_for_tag m), kind_of (length m)) a.u.now m (padded_for_tag m) a.out.now (length m + t.result)
     (tag_length m ∙ ap (λ (k : ℕ). length m + k) (sym t.ensures)) _ c.admit.ensures _ c.in-Refused.is
 
 pub slice_bounds-code_text-end : goal.slice_bounds-code_text-end
@@ -33,7 +33,7 @@ code_text-requires c =
     let a = c.args in
     let t = c.tag_added-added in
     let n = length a.message.now in
-    let h = admitted_low a.u.now n (n + t.result) (length a.out-1.now) _ c.admit.ensures c.in_default.is in
+    let h = admitted_low a.u.now n (n + t.result) (length a.out.now) _ c.admit.ensures c.in_default.is in
     let f = front_length t.result (0x80 ∷ replicate 15 0) (omega (arith, t.ensures, added_most n)) in
     (h.0, h.1, omega (arith, h.2, f))
 
@@ -51,7 +51,7 @@ returns c =
     let t = c.tag_added-added in
     let m = a.message.now in
     let size : length (padded_for_tag m) ≡ length m + t.result = tag_length m ∙ ap (λ (k : ℕ). length m + k) (sym t.ensures) in
-    answer_coded (0, 0) (length (padded_for_tag m), kind_of (length m)) a.u.now m (padded_for_tag m) a.out-1.now (length m + t.result) size _
+    answer_coded (0, 0) (length (padded_for_tag m), kind_of (length m)) a.u.now m (padded_for_tag m) a.out.now (length m + t.result) size _
     c.admit.ensures _ _ ((length m - 1) / 16 + 1) _ _ c.in_default.is
     (tag_tail m t.result t.ensures) (tag_blocks m) c.code_text.ensures
     (ap (λ (k : ℕ). length m + k) (front_length t.result (0x80 ∷ replicate 15 0) (omega (arith, t.ensures, added_most (length m)))))

@@ -19,13 +19,13 @@ pub loop-k-preserved : goal.loop-k-preserved
 loop-k-preserved c =
     let a = c.args in
     let v = c.loop-k.invariant in
-    let f = fold_of a.f.now a.iv a.sealed.now a.out-1.now in
-    let len = length_fold a.f.now a.iv a.sealed.now a.out-1.now in
-    let read = c.block_at.ensures ∙ made_next f len a.out-1.now c.loop-k.k c.loop-k.out v.2 in (
+    let f = fold_of a.f.now a.iv a.sealed.now a.out.now in
+    let len = length_fold a.f.now a.iv a.sealed.now a.out.now in
+    let read = c.block_at.ensures ∙ made_next f len a.out.now c.loop-k.k c.loop-k.out v.2 in (
       omega arith,
       before_more a.iv a.sealed.now _ c.loop-k.k c.block_at-before.ensures,
       c.put_block.ensures
-          ∙ made_more f len a.out-1.now c.loop-k.k c.loop-k.out v.2 c.fold.result (c.fold.ensures ∙ ap₂ (table_fold a.f.now) read v.1),
+          ∙ made_more f len a.out.now c.loop-k.k c.loop-k.out v.2 c.fold.result (c.fold.ensures ∙ ap₂ (table_fold a.f.now) read v.1),
       c.put_block.auto.d ∙ v.3,
     )
 
@@ -36,4 +36,4 @@ pub returns : goal.returns
 returns c =
     let a = c.args in
     let e : c.loop-k.k ≡ a.n = omega arith in
-    c.loop-k.invariant.2 ∙ ap (λ (k : ℕ). chunks k (fold_of a.f.now a.iv a.sealed.now a.out-1.now) ++ drop (16 * k) a.out-1.now) e
+    c.loop-k.invariant.2 ∙ ap (λ (k : ℕ). chunks k (fold_of a.f.now a.iv a.sealed.now a.out.now) ++ drop (16 * k) a.out.now) e

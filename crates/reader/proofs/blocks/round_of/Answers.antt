@@ -29,11 +29,11 @@ loop-k-preserved c =
     let a = c.args in
     let v = c.loop-k.invariant in
     let k = c.loop-k.k in
-    let f = round_of a.t.now a.out-1.now in
-    let len = length_round a.t.now a.out-1.now in
-    let read = made_part f len a.out-1.now k c.loop-k.out v.1 in (
+    let f = round_of a.t.now a.out.now in
+    let len = length_round a.t.now a.out.now in
+    let read = made_part f len a.out.now k c.loop-k.out v.1 in (
       omega arith,
-      made_lent f len a.out-1.now k c.loop-k.out v.1 _ (c.step.ensures ∙ ap (read_round a.t.now) read),
+      made_lent f len a.out.now k c.loop-k.out v.1 _ (c.step.ensures ∙ ap (read_round a.t.now) read),
       same_len_mid (16 * k) (16 * k + 16 - 16 * k) c.loop-k.out c.step.new.y c.step.auto.y ∙ v.2,
     )
 
@@ -44,4 +44,4 @@ pub returns : goal.returns
 returns c =
     let a = c.args in
     let e : c.loop-k.k ≡ a.n = omega arith in
-    c.loop-k.invariant.1 ∙ ap (λ (k : ℕ). chunks k (round_of a.t.now a.out-1.now) ++ drop (16 * k) a.out-1.now) e
+    c.loop-k.invariant.1 ∙ ap (λ (k : ℕ). chunks k (round_of a.t.now a.out.now) ++ drop (16 * k) a.out.now) e

@@ -39,6 +39,6 @@ pub returns : goal.returns
 returns c =
     let a = c.args in
     let q = c.rounds-r.result in
-    read_is a.book.now a.iv a.sealed.now a.out-1.now q a.n (omega (arith, c.rounds-r.ensures, rounds_more a.size)) c.requires.2 c.requires.3 _ _ _ _
+    read_is a.book.now a.iv a.sealed.now a.out.now q a.n (omega (arith, c.rounds-r.ensures, rounds_more a.size)) c.requires.2 c.requires.3 _ _ _ _
     c.copy.ensures c.rounds.ensures (part_end a.book.now (18432 * q)) c.folds.ensures
-    ∙ ap (λ (r : ℕ). chunks a.n (read_at a.book.now r a.iv a.sealed.now) ++ drop (16 * a.n) a.out-1.now) c.rounds-r.ensures
+    ∙ ap (λ (r : ℕ). chunks a.n (read_at a.book.now r a.iv a.sealed.now) ++ drop (16 * a.n) a.out.now) c.rounds-r.ensures

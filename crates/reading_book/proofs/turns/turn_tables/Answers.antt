@@ -22,7 +22,7 @@ pub loop-p-preserved : goal.loop-p-preserved
 loop-p-preserved c =
     let a = c.args in
     let at = c.loop-p.at in
-    parts_next (made_turn_back a.s.now a.round.now) 256 24 a.out-1.now (length_turn_back a.s.now a.round.now) c.loop-p.out _ at c.loop-p.p c.loop-p.invariant
+    parts_next (made_turn_back a.s.now a.round.now) 256 24 a.out.now (length_turn_back a.s.now a.round.now) c.loop-p.out _ at c.loop-p.p c.loop-p.invariant
     (omega arith) c.turn_table.ensures (same_len_mid at (at + 256 - at) c.loop-p.out c.turn_table.new.out c.turn_table.auto.out)
 
 pub returns : goal.returns

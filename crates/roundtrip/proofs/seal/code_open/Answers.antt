@@ -14,13 +14,13 @@ pub returns-in-Refused : goal.returns-in-Refused
 unfolding coded_opened
 returns-in-Refused c =
     let a = c.args in
-    written_refused _ _ _ c.code_for_sealing.ensures (a.sealed-1.now, a.out-1.now)
-    (λ f. sealed_opened a.schedule a.key.now a.set.now a.book.now a.iv.now f a.sealed-1.now a.out-1.now) _ c.in-Refused.is
+    written_refused _ _ _ c.code_for_sealing.ensures (a.sealed.now, a.out.now)
+    (λ f. sealed_opened a.schedule a.key.now a.set.now a.book.now a.iv.now f a.sealed.now a.out.now) _ c.in-Refused.is
 
 pub returns-in-Bytes : goal.returns-in-Bytes
 unfolding coded_opened
 returns-in-Bytes c =
     let a = c.args in
     ap (λ (y : (ℕ × ℕ) × (List ℕ × List ℕ)). (y.0, (c.code_for_sealing.new.out, y.1))) c.seal_open.ensures
-    ∙ sym (written_done _ _ _ c.code_for_sealing.ensures (a.sealed-1.now, a.out-1.now)
-    (λ f. sealed_opened a.schedule a.key.now a.set.now a.book.now a.iv.now f a.sealed-1.now a.out-1.now) _ c.in-Bytes.is)
+    ∙ sym (written_done _ _ _ c.code_for_sealing.ensures (a.sealed.now, a.out.now)
+    (λ f. sealed_opened a.schedule a.key.now a.set.now a.book.now a.iv.now f a.sealed.now a.out.now) _ c.in-Bytes.is)

@@ -15,8 +15,8 @@ pub returns-in-Refused : goal.returns-in-Refused
 unfolding sealed_opened
 returns-in-Refused c =
     let a = c.args in
-    written_refused _ _ _ c.seal.ensures a.out-1.now
-    (λ f. open_answer a.schedule a.key.now a.set.now a.iv.now f a.out-1.now) _ c.in-Refused.is
+    written_refused _ _ _ c.seal.ensures a.out.now
+    (λ f. open_answer a.schedule a.key.now a.set.now a.iv.now f a.out.now) _ c.in-Refused.is
 
 pub returns-in-Bytes : goal.returns-in-Bytes
 unfolding sealed_opened
@@ -29,5 +29,5 @@ returns-in-Bytes c =
         y.1,
       ),
     )) c.before.before.«open».ensures
-    ∙ sym (written_done _ _ _ c.seal.ensures a.out-1.now
-    (λ f. open_answer a.schedule a.key.now a.set.now a.iv.now f a.out-1.now) _ c.in-Bytes.is)
+    ∙ sym (written_done _ _ _ c.seal.ensures a.out.now
+    (λ f. open_answer a.schedule a.key.now a.set.now a.iv.now f a.out.now) _ c.in-Bytes.is)

@@ -16,7 +16,7 @@ pub returns-in-Refused : goal.returns-in-Refused
 unfolding seal_roundtrip
 returns-in-Refused c =
     let a = c.args in
-    way_refused _ _ _ _ _ _ c.start.ensures (λ b q. ((q, 0), (b, a.coded-1.now, a.sealed-1.now, a.out-1.now))) _ _ c.in-Refused.is
+    way_refused _ _ _ _ _ _ c.start.ensures (λ b q. ((q, 0), (b, a.coded.now, a.sealed.now, a.out.now))) _ _ c.in-Refused.is
 
 pub slice_bounds-u-end : goal.slice_bounds-u-end
 slice_bounds-u-end c = omega (arith, sets_fit _ _ _ _ _ _ c.start.ensures _ c.in-Built.is _ refl)
@@ -49,12 +49,12 @@ returns-in-Built c =
     let s = cut_set _ _ _ _ _ _ e _ d _ c.rounds.ensures in
     let b = cut_book _ _ _ _ _ _ e _ d _ c.book_len.ensures in
     let w : (ℕ × ℕ) × (List ℕ × (List ℕ × List ℕ)) → (ℕ × ℕ) × (List ℕ × List ℕ × List ℕ × List ℕ) = λ o.
-    (o.0, (over (key_book a.schedule a.key.now a.chain.now) a.book-1.now, o.1.0, o.1.1.0, o.1.1.1)) in
+    (o.0, (over (key_book a.schedule a.key.now a.chain.now) a.book.now, o.1.0, o.1.1.0, o.1.1.1)) in
     let o = c.code_open.ensures in
     (λ i. ((o i).0, (held_is _ _ _ _ _ _ e _ d i, (o i).1.0, (o i).1.1.0, (o i).1.1.1)))
-    ∙ (λ i. w (coded_opened a.schedule a.key.now (take 512 a.chain.now) (s i) (b i) a.iv.now a.message.now a.coded-1.now a.sealed-1.now a.out-1.now))
+    ∙ (λ i. w (coded_opened a.schedule a.key.now (take 512 a.chain.now) (s i) (b i) a.iv.now a.message.now a.coded.now a.sealed.now a.out.now))
     ∙ coded_opened_lem _ _ _ _ _ (way_built _ _ _ _ _ _ e _ d) (bytes_of_lem a.key.now (λ j h. omega
     (arith, c.shared_slice_known-1.given j)))
-    a.iv.now a.message.now a.coded-1.now a.sealed-1.now a.out-1.now
+    a.iv.now a.message.now a.coded.now a.sealed.now a.out.now
     (bytes_of_lem a.message.now (λ j h. omega (arith, c.shared_slice_known-4-1.given j))) w
     ∙ sym (way_done _ _ _ _ _ _ e _ d _ _)

@@ -22,7 +22,7 @@ pub loop-p-preserved : goal.loop-p-preserved
 loop-p-preserved c =
     let a = c.args in
     let at = c.loop-p.at in
-    parts_next (made_add a.s.now a.round.now a.k) 512 24 a.out-1.now (length_add a.s.now a.round.now a.k) c.loop-p.out _ at c.loop-p.p c.loop-p.invariant
+    parts_next (made_add a.s.now a.round.now a.k) 512 24 a.out.now (length_add a.s.now a.round.now a.k) c.loop-p.out _ at c.loop-p.p c.loop-p.invariant
     (omega arith) c.add_table.ensures (same_len_mid at (at + 512 - at) c.loop-p.out c.add_table.new.out c.add_table.auto.out)
 
 pub returns : goal.returns

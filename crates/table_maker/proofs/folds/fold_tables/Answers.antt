@@ -22,7 +22,7 @@ pub loop-p-preserved : goal.loop-p-preserved
 loop-p-preserved c =
     let a = c.args in
     let at = c.loop-p.at in
-    parts_next (made_fold a.s.now a.u.now a.first.now a.k) 256 32 a.out-1.now
+    parts_next (made_fold a.s.now a.u.now a.first.now a.k) 256 32 a.out.now
     (length_fold a.s.now a.u.now a.first.now a.k) c.loop-p.out _ at c.loop-p.p c.loop-p.invariant
     (omega arith) c.fold_table.ensures (same_len_mid at (at + 256 - at) c.loop-p.out c.fold_table.new.out c.fold_table.auto.out)
 

@@ -1,5 +1,6 @@
 -- `rows::sum_row` meets its contract. The invariant: q entries are written.
 use mathlib.Core.Path.{refl}
+use Prim.Native.Nat.{◌+◌}
 use native.Mathlib.Omega.{arith}
 use Rattle.lists.specs.Tabulation.{tab}
 use Rattle.table_maker.proofs.RowLaws.{row_inside, row_next, row_done}

@@ -1,5 +1,5 @@
 -- `rows::sum_row` meets its contract. The invariant: q entries are written.
-use Prim.Native.Nat.{◌-◌}
+use Prim.Native.Nat.{◌+◌, ◌-◌}
 use Rattle.table_maker.proofs.RowLaws.{RowTill}
 use Rattle.table_maker.proofs.rows.sum_row.Given as goal
 

@@ -1,5 +1,5 @@
 -- `rows::sum_table` meets its contract. The invariant: x rows are written, and the rest is as it was.
-use Prim.Native.Nat.{◌-◌}
+use Prim.Native.Nat.{◌+◌, ◌-◌}
 use lib.ListN.{length}
 use Rattle.table_maker.proofs.RowLaws.{TableTill}
 use Rattle.table_maker.proofs.rows.sum_table.Given as goal

@@ -22,7 +22,7 @@ pub loop-x-preserved : goal.loop-x-preserved
 loop-x-preserved c =
     let a = c.args in
     let at = c.loop-x.at in
-    table_next bit_xor a.e.now a.a.now a.b.now a.out-1.now c.loop-x.out _ at c.loop-x.x c.loop-x.invariant (omega arith) c.xor_row.ensures
+    table_next bit_xor a.e.now a.a.now a.b.now a.out.now c.loop-x.out _ at c.loop-x.x c.loop-x.invariant (omega arith) c.xor_row.ensures
     (same_len_mid at (at + 16 - at) c.loop-x.out c.xor_row.new.out c.xor_row.auto.out)
 
 pub returns : goal.returns

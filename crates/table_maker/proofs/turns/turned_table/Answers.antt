@@ -1,7 +1,7 @@
 -- `turns::turned_table` meets its contract.
 use mathlib.Core.Path.{ap₂, ◌∙◌}
 use mathlib.Core.List.{List}
-use Prim.Native.Nat.{ℕ}
+use Prim.Native.Nat.{ℕ, ◌+◌}
 use Rattle.table_maker.specs.Rows.{table_by}
 use Rattle.table_maker.proofs.MadeLaws.{turn_fits}
 use Rattle.table_maker.proofs.turns.turned_table.Goals as goal
