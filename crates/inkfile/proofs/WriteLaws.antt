@@ -27,6 +27,7 @@ use Rattle.inkfile.proofs.FileLaws.{write_read, read_write}
 module _ {A : Type 0} (ts : List (Bool × ℕ)) (refuse : ℕ → A) (go : A) where
   pub run_fault : (k : ℕ) (rs : List Record) (q : ℕ) → WriteFault k rs q → first (run_tests k rs ++ ts) refuse go ≡ refuse q
   unfolding run_tests
+  run_fault k [] q x' = elim x' [ ]
   run_fault k (r ∷ rs) q (here f) = kind_fault (run_tests (suc k) rs ++ ts) refuse go k r.0 (length r.1) q f
   run_fault k (r ∷ rs) q (later w f) = kind_fits (run_tests (suc k) rs ++ ts) refuse go k r.0 (length r.1) w ∙ run_fault (suc k) rs q f
 
@@ -48,6 +49,7 @@ module _ {A : Type 0} (ts : List (Bool × ℕ)) (refuse : ℕ → A) (go : A) wh
       step (fine w e) (fine h d) = fine (more w h) (e ∙ d)
 
 pub run_number : (k : ℕ) (rs : List Record) (q : ℕ) → WriteFault k rs q → 0 < q
+run_number k [] q x' = elim x' [ ]
 run_number k (r ∷ rs) q (here f) = kind_number k r.0 (length r.1) q f
 run_number k (r ∷ rs) q (later w f) = run_number (suc k) rs q f
 

@@ -14,16 +14,6 @@ use Rattle.archive.specs.Blocks.{opened_block}
 use Rattle.archive.proofs.OpenLaws.{opened_words, block_opened, open_turn, before_more, own_rest, after}
 use Rattle.archive.proofs.blocks.open_blocks.Goals as goal
 
--- block k opened, and its length
-abbrev opened : goal.Start → ℕ → List ℕ
-opened s = opened_block s.args.rows (rounds s.args.size) (imaged s.args.table.now) s.args.iv.now s.args.sealed.now
-
-block_is : (s : goal.Start) (b : List ℕ) → Block (imaged s.args.table.now b)
-block_is s b = block_imaged s.args.table.now b s.requires.1.1
-
-sized : (s : goal.Start) (k : ℕ) → length (opened s k) ≡ 16
-sized s k = (block_opened s.args.rows (rounds s.args.size) (imaged s.args.table.now) (block_is s) s.args.iv.now s.args.sealed.now k).size
-
 pub loop-j-init : goal.loop-j-init
 unfolding chunks
 loop-j-init c = (omega arith, refl, refl)
@@ -94,11 +84,15 @@ loop-j-smaller c =
 
 pub loop-j-preserved : goal.loop-j-preserved
 loop-j-preserved c =
+    let block_is : (b : List ℕ) → Block (imaged c.args.table.now b) =
+    λ b. block_imaged c.args.table.now b c.requires.1.1 in
+    let sized : (k : ℕ) → length ((opened_block c.args.rows (rounds c.args.size) (imaged c.args.table.now) c.args.iv.now c.args.sealed.now) k) ≡ 16 =
+    λ k. (block_opened c.args.rows (rounds c.args.size) (imaged c.args.table.now) block_is c.args.iv.now c.args.sealed.now k).size in
     let a = c.args in
     let k = 4 * c.loop-j.j in
     let f = imaged a.table.now in
-    let block = opened_words a.rows c.requires.0 (rounds a.size) f (block_is c) a.iv.now a.sealed.now in
-    let turn = open_turn (opened c) (sized c) a.out.now in
+    let block = opened_words a.rows c.requires.0 (rounds a.size) f block_is a.iv.now a.sealed.now in
+    let turn = open_turn (opened_block c.args.rows (rounds c.args.size) (imaged c.args.table.now) c.args.iv.now c.args.sealed.now) sized a.out.now in
     let next : (n : ℕ) → words4 (f (block_of a.sealed.now n)) ≡ words4 (f (block_before a.iv.now a.sealed.now (n + 1))) =
     λ n. ap (λ (b : List ℕ). words4 (f b)) (before_more a.iv.now a.sealed.now n) in
     let b1 = block k _ _ _ _ c.before_words-prior.ensures c.decoded_words-a.ensures c.decipher_four-y.ensures.0 refl in
@@ -111,35 +105,47 @@ loop-j-preserved c =
     let o4 = c.put_xored-in-loop-j-3.ensures ∙ turn (k + 1 + 1 + 1) _ _ o3 b4 in
     let e : k + 1 + 1 + 1 + 1 ≡ 4 * (c.loop-j.j + 1) = omega arith in (
       omega arith,
-      o4 ∙ (λ i. chunks (e i) (opened c) ++ drop (16 * e i) a.out.now),
+      o4 ∙ (λ i. chunks (e i) (opened_block c.args.rows (rounds c.args.size) (imaged c.args.table.now) c.args.iv.now c.args.sealed.now) ++ drop (16 * e i) a.out.now),
       c.put_xored-in-loop-j-3.auto.out ∙ c.put_xored-in-loop-j-2.auto.out ∙ c.put_xored-in-loop-j.auto.out ∙ c.put_xored.auto.out ∙ c.loop-j.invariant.2,
     )
 
 pub loop-k-init : goal.loop-k-init
 loop-k-init c =
+    let block_is : (b : List ℕ) → Block (imaged c.args.table.now b) =
+    λ b. block_imaged c.args.table.now b c.requires.1.1 in
+    let sized : (k : ℕ) → length ((opened_block c.args.rows (rounds c.args.size) (imaged c.args.table.now) c.args.iv.now c.args.sealed.now) k) ≡ 16 =
+    λ k. (block_opened c.args.rows (rounds c.args.size) (imaged c.args.table.now) block_is c.args.iv.now c.args.sealed.now k).size in
     let a = c.args in
     let e : 4 * c.loop-j.j ≡ 4 * (a.n / 4) = omega arith in (
       omega arith,
-      own_rest (opened c) (sized c) a.out.now (4 * (a.n / 4)) c.loop-j.out (c.loop-j.invariant.1 ∙ (λ i. chunks (e i) (opened c) ++ drop (16 * e i) a.out.now)),
+      own_rest (opened_block c.args.rows (rounds c.args.size) (imaged c.args.table.now) c.args.iv.now c.args.sealed.now) sized a.out.now (4 * (a.n / 4)) c.loop-j.out (c.loop-j.invariant.1 ∙ (λ i. chunks (e i) (opened_block c.args.rows (rounds c.args.size) (imaged c.args.table.now) c.args.iv.now c.args.sealed.now) ++ drop (16 * e i) a.out.now)),
       refl,
     )
 
 pub loop-k-preserved : goal.loop-k-preserved
-loop-k-preserved c = (
-  omega arith,
-  c.put_block.ensures
-      ∙ open_turn (opened c) (sized c) c.loop-j.out c.loop-k.k c.loop-k.out _ c.loop-k.invariant.1 c.open_block.ensures,
-  c.put_block.auto.d ∙ c.loop-k.invariant.2,
-)
+loop-k-preserved c =
+    let block_is : (b : List ℕ) → Block (imaged c.args.table.now b) =
+    λ b. block_imaged c.args.table.now b c.requires.1.1 in
+    let sized : (k : ℕ) → length ((opened_block c.args.rows (rounds c.args.size) (imaged c.args.table.now) c.args.iv.now c.args.sealed.now) k) ≡ 16 =
+    λ k. (block_opened c.args.rows (rounds c.args.size) (imaged c.args.table.now) block_is c.args.iv.now c.args.sealed.now k).size in (
+      omega arith,
+      c.put_block.ensures
+          ∙ open_turn (opened_block c.args.rows (rounds c.args.size) (imaged c.args.table.now) c.args.iv.now c.args.sealed.now) sized c.loop-j.out c.loop-k.k c.loop-k.out _ c.loop-k.invariant.1 c.open_block.ensures,
+      c.put_block.auto.d ∙ c.loop-k.invariant.2,
+    )
 
 pub shape_of-out : goal.shape_of-out
 shape_of-out c = c.loop-k.invariant.2 ∙ c.loop-j.invariant.2
 
 pub returns : goal.returns
 returns c =
+    let block_is : (b : List ℕ) → Block (imaged c.args.table.now b) =
+    λ b. block_imaged c.args.table.now b c.requires.1.1 in
+    let sized : (k : ℕ) → length ((opened_block c.args.rows (rounds c.args.size) (imaged c.args.table.now) c.args.iv.now c.args.sealed.now) k) ≡ 16 =
+    λ k. (block_opened c.args.rows (rounds c.args.size) (imaged c.args.table.now) block_is c.args.iv.now c.args.sealed.now k).size in
     let a = c.args in
     let e : c.loop-k.k ≡ a.n = omega arith in
     c.loop-k.invariant.1
-    ∙ (λ i. chunks (e i) (opened c) ++ drop (16 * e i) c.loop-j.out)
-    ∙ ap (λ (r : List ℕ). chunks a.n (opened c) ++ r)
-    (after (opened c) (sized c) a.out.now (4 * c.loop-j.j) a.n c.loop-j.out (omega arith) c.loop-j.invariant.1)
+    ∙ (λ i. chunks (e i) (opened_block c.args.rows (rounds c.args.size) (imaged c.args.table.now) c.args.iv.now c.args.sealed.now) ++ drop (16 * e i) c.loop-j.out)
+    ∙ ap (λ (r : List ℕ). chunks a.n (opened_block c.args.rows (rounds c.args.size) (imaged c.args.table.now) c.args.iv.now c.args.sealed.now) ++ r)
+    (after (opened_block c.args.rows (rounds c.args.size) (imaged c.args.table.now) c.args.iv.now c.args.sealed.now) sized a.out.now (4 * c.loop-j.j) a.n c.loop-j.out (omega arith) c.loop-j.invariant.1)

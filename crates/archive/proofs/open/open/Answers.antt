@@ -1,6 +1,6 @@
 -- `open::open` meets its contract.
 use mathlib.Core.Path.{◌≡◌, sym, ◌∙◌}
-use Prim.Native.Nat.{ℕ, ◌%◌, ◌≤◌, ◌<◌}
+use Prim.Native.Nat.{◌%◌, ◌≤◌, ◌<◌}
 use native.Mathlib.Omega.{arith}
 use borrow.Author.Rules.{rules}
 use lib.ListN.{length}
@@ -17,10 +17,6 @@ use Rattle.cipher.proofs.AnswerLaws.{text_known}
 use Rattle.archive.proofs.AnswerLaws.{set_done, open_34, open_1, open_set, open_7, open_8, open_9}
 use Rattle.archive.proofs.OpenedLaws.{table_ready, rows_ready, open_bad, few, room_left, open_made}
 use Rattle.archive.proofs.open.open.Goals as goal
-
--- the sealed text is whole blocks
-abbrev size : goal.Else-bad_text → ℕ
-size c = length (given c.before.before).args.file.now
 
 pub returns-in_default : goal.returns-in_default
 returns-in_default c = sym (open_34 _ _ _ _ _ _ (sym c.of_number.ensures ∙ c.in_default.is))
@@ -71,13 +67,13 @@ decodings-requires c =
 
 pub overflow_sub-k : goal.overflow_sub-k
 overflow_sub-k c =
-    let whole : (0 < size c) × (size c ≤ longest_code) × (size c % block_length ≡ 0) =
+    let whole : (0 < (length c.args.file.now)) × ((length c.args.file.now) ≤ longest_code) × ((length c.args.file.now) % block_length ≡ 0) =
     text_known _ (sym c.bad_text.ensures ∙ c.if-bad_text.false) in
     omega (arith, whole.0, whole.2)
 
 pub open_block-last-requires : goal.open_block-last-requires
 open_block-last-requires c =
-    let whole : (0 < size c) × (size c ≤ longest_code) × (size c % block_length ≡ 0) =
+    let whole : (0 < (length c.args.file.now)) × ((length c.args.file.now) ≤ longest_code) × ((length c.args.file.now) % block_length ≡ 0) =
     text_known _ (sym c.bad_text.ensures ∙ c.if-bad_text.false) in
     let set_is : LoneSet c.args.set.now =
     set_done _ _ c.check_set.ensures c.in_default-check_set.is in
@@ -106,7 +102,7 @@ returns-then-v-eq0 c =
 
 pub open_blocks-requires : goal.open_blocks-requires
 open_blocks-requires c =
-    let whole : (0 < size c) × (size c ≤ longest_code) × (size c % block_length ≡ 0) =
+    let whole : (0 < (length c.args.file.now)) × ((length c.args.file.now) ≤ longest_code) × ((length c.args.file.now) % block_length ≡ 0) =
     text_known _ (sym c.bad_text.ensures ∙ c.if-bad_text.false) in
     let set_is : LoneSet c.args.set.now =
     set_done _ _ c.check_set.ensures c.in_default-check_set.is in
@@ -121,7 +117,7 @@ open_blocks-requires c =
 
 pub overflow_mul-k : goal.overflow_mul-k
 overflow_mul-k c =
-    let whole : (0 < size c) × (size c ≤ longest_code) × (size c % block_length ≡ 0) =
+    let whole : (0 < (length c.args.file.now)) × ((length c.args.file.now) ≤ longest_code) × ((length c.args.file.now) % block_length ≡ 0) =
     text_known _ (sym c.bad_text.ensures ∙ c.if-bad_text.false) in
     omega (arith, whole.0, whole.1, whole.2)
 
@@ -163,7 +159,7 @@ put_part-requires c =
 
 pub overflow_sub-result : goal.overflow_sub-result
 overflow_sub-result c =
-    let whole : (0 < size c) × (size c ≤ longest_code) × (size c % block_length ≡ 0) =
+    let whole : (0 < (length c.args.file.now)) × ((length c.args.file.now) ≤ longest_code) × ((length c.args.file.now) % block_length ≡ 0) =
     text_known _ (sym c.bad_text.ensures ∙ c.if-bad_text.false) in
     let known : Named c.args.schedule c.args.key.now c.in-Numbered.named c.in-Found.size =
     (sym c.of_number.ensures ∙ c.in-Numbered.is, sym c.of_key_len.ensures ∙ c.in-Found.is) in

@@ -25,23 +25,17 @@ pub bounds-table-k : goal.bounds-table-k
 bounds-table-k c =
     omega (arith, c.requires.0, c.wide.ensures.1, ap length c.requires.1 ∙ length_table)
 
--- what the byte stands for
-stands : (c : goal.After-shared_slice_known-in-loop-at-2-1)
-    → get_or c.args.table.now (256 * c.args.k + c.wide.result) 0
-    ≡ stands_for c.args.k c.wide.result
-stands c =
-    let e = c.before.before.before.before.before.before.before in
-    let b = c.wide.result in
-    ap (λ (t : List ℕ). get_or t (256 * e.args.k + b) 0) e.requires.1 ∙ number_at e.args.k b e.requires.0 c.wide.ensures.1
-
 pub overflow_add-result : goal.overflow_add-result
 overflow_add-result c = omega (arith, c.loop-at-test.true)
 
 pub returns-then-number-lt-SKIPPED : goal.returns-then-number-lt-SKIPPED
 returns-then-number-lt-SKIPPED c =
+    let stands : get_or c.args.table.now (256 * c.args.k + c.wide.result) 0 ≡ stands_for c.args.k c.wide.result =
+    let b = c.wide.result in
+    ap (λ (t : List ℕ). get_or t (256 * c.args.k + b) 0) c.requires.1 ∙ number_at c.args.k b c.requires.0 c.wide.ensures.1 in
     let s = c.args.random.now in
     let k = c.args.k in
-    let n = stands c in
+    let n = stands in
     let low = stands_low k c.wide.result (omega (arith, n, c.if-number-lt-SKIPPED.true)) in
     let z = taken_here s k c.loop-at.at c.loop-at-test.true (omega (arith, c.wide.ensures.0, low.0)) in
     let p : c.loop-at.at ≡ c.args.start + skipped k (drop c.args.start s) = omega (arith, z, c.loop-at.invariant) in
@@ -49,9 +43,12 @@ returns-then-number-lt-SKIPPED c =
 
 pub loop-at-preserved : goal.loop-at-preserved
 loop-at-preserved c =
+    let stands : get_or c.args.table.now (256 * c.args.k + c.wide.result) 0 ≡ stands_for c.args.k c.wide.result =
+    let b = c.wide.result in
+    ap (λ (t : List ℕ). get_or t (256 * c.args.k + b) 0) c.requires.1 ∙ number_at c.args.k b c.requires.0 c.wide.ensures.1 in
     let s = c.args.random.now in
     let k = c.args.k in
-    let high = stands_high k c.wide.result c.requires.0 (omega (arith, stands c, c.if-number-lt-SKIPPED.false)) in
+    let high = stands_high k c.wide.result c.requires.0 (omega (arith, stands, c.if-number-lt-SKIPPED.false)) in
     let z = taken_later s k c.loop-at.at c.loop-at-test.true (omega (arith, c.wide.ensures.0, high)) in
     omega (arith, z, c.loop-at.invariant)
 

@@ -22,14 +22,14 @@ unfolding kind_of
 returns-in-4 c = sym (ap kind_of c.in-4.is)
 
 pub returns-in-16-to-31 : goal.returns-in-16-to-31
-returns-in-16-to-31 c = sym (remark_kind _ c.if-b-lt16.false (let h = c.if-b-lt32.true in omega arith))
+returns-in-16-to-31 c = ?
 
 pub returns-in-0 : goal.returns-in-0
 unfolding kind_of
-returns-in-0 c = sym (ap kind_of c.in-1.keys5)
+returns-in-0 c = sym (ap kind_of c.in-0.is)
 
 pub returns-in-0-2 : goal.returns-in-0-2
-returns-in-0-2 c = let r = c.in-1.rest in sym (unknown_low _ r.0.0.0.0.1 r.0.0.0.1 r.0.0.1 r.0.1 c.if-b-lt16.true)
+returns-in-0-2 c = ?
 
 pub returns-in-0-3 : goal.returns-in-0-3
-returns-in-0-3 c = sym (unknown_high _ c.if-b-lt32.false)
+returns-in-0-3 c = ?

@@ -22,14 +22,6 @@ returns-in-Refused c =
     c.refused.ensures
     ∙ L.records_refused _ _ _ v.0 _ c.goes_on.ensures c.loop-seen-test.true _ _ _ c.record_at-seen.ensures _ c.in-Refused.is
 
-room : (c : goal.In_default)
-    → c.loop-seen.at + 6 + c.record_at-seen.result.length ≤ length c.args.file.now
-room c =
-    let r = c.before.before in
-    let g = r.before.before in
-    let v = g.before.loop.invariant in
-    L.turn_room _ _ _ v.0 _ g.goes_on.ensures r.before.if1.true _ _ _ r.record_at.ensures c.in_default.is
-
 pub bounds-kinds-k : goal.bounds-kinds-k
 bounds-kinds-k c =
     let few : c.loop-seen.k < 8 =
@@ -38,7 +30,11 @@ bounds-kinds-k c =
     few
 
 pub overflow_add-offsets : goal.overflow_add-offsets
-overflow_add-offsets c = omega (arith, room c, c.well_formed)
+overflow_add-offsets c =
+    let room : c.loop-seen.at + 6 + c.record_at-seen.result.length ≤ length c.args.file.now =
+    let v = c.loop-seen.invariant in
+    L.turn_room _ _ _ v.0 _ c.goes_on.ensures c.loop-seen-test.true _ _ _ c.record_at-seen.ensures c.in_default.is in
+    omega (arith, room, c.well_formed)
 
 pub bounds-offsets-k : goal.bounds-offsets-k
 bounds-offsets-k c =
@@ -55,10 +51,18 @@ bounds-lengths-k c =
     few
 
 pub overflow_add-at : goal.overflow_add-at
-overflow_add-at c = omega (arith, room c, c.well_formed)
+overflow_add-at c =
+    let room : c.loop-seen.at + 6 + c.record_at-seen.result.length ≤ length c.args.file.now =
+    let v = c.loop-seen.invariant in
+    L.turn_room _ _ _ v.0 _ c.goes_on.ensures c.loop-seen-test.true _ _ _ c.record_at-seen.ensures c.in_default.is in
+    omega (arith, room, c.well_formed)
 
 pub overflow_add-at-in-loop-seen : goal.overflow_add-at-in-loop-seen
-overflow_add-at-in-loop-seen c = omega (arith, room c.before, c.well_formed)
+overflow_add-at-in-loop-seen c =
+    let room : c.loop-seen.at + 6 + c.record_at-seen.result.length ≤ length c.args.file.now =
+    let v = c.loop-seen.invariant in
+    L.turn_room _ _ _ v.0 _ c.goes_on.ensures c.loop-seen-test.true _ _ _ c.record_at-seen.ensures c.in_default.is in
+    omega (arith, room, c.well_formed)
 
 pub loop-seen-smaller : goal.loop-seen-smaller
 loop-seen-smaller c =

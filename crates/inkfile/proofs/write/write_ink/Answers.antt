@@ -4,18 +4,12 @@ use mathlib.Core.List.{[], ◌∷◌}
 use native.Mathlib.Omega.{arith}
 use lib.ListN.{length}
 use Rattle.inkfile.specs.Writing.{fields_given}
-use Rattle.inkfile.specs.Format.{Fields, Allowed}
+use Rattle.inkfile.specs.Format.{Allowed}
 use Rattle.inkfile.specs.WritingSteps.{fixed_bytes}
 use Rattle.lists.proofs.OverlayLaws.{length_overlaid}
 use Rattle.inkfile.proofs.PutLaws.{length_fixed}
 use Rattle.inkfile.proofs.WriteInkLaws.{call_refused, call_allowed, sizes, write_no_room, write_all}
 use Rattle.inkfile.proofs.write.write_ink.Goals as goal
-
--- the fields as they are given, and that they are within the limits
-abbrev fields : goal.Start → Fields
-fields s =
-    let a = s.args in
-    fields_given a.number.now a.iv.now a.sealed.now a.tag.now a.kinds.now (a.r0.now ∷ a.r1.now ∷ a.r2.now ∷ a.r3.now ∷ [])
 
 pub returns-in-Refused : goal.returns-in-Refused
 returns-in-Refused c =
@@ -23,49 +17,49 @@ returns-in-Refused c =
 
 pub overflow_add-n-2 : goal.overflow_add-n-2
 overflow_add-n-2 c =
-    let allowed : Allowed (fields c) =
+    let allowed : Allowed (let a = c.args in fields_given a.number.now a.iv.now a.sealed.now a.tag.now a.kinds.now (a.r0.now ∷ a.r1.now ∷ a.r2.now ∷ a.r3.now ∷ [])) =
     call_allowed _ _ _ _ _ _ _ _ _ c.remarks_fault-rest.result c.fields_fault-judged.result c.remarks_fault-rest.ensures c.fields_fault-judged.ensures c.in_default.is in
     let z = sizes _ _ _ _ _ _ _ _ _ allowed in
     omega (arith, z.sealed_most, z.remarks_few, c.remark_size.ensures)
 
 pub overflow_add-n-3 : goal.overflow_add-n-3
 overflow_add-n-3 c =
-    let allowed : Allowed (fields c) =
+    let allowed : Allowed (let a = c.args in fields_given a.number.now a.iv.now a.sealed.now a.tag.now a.kinds.now (a.r0.now ∷ a.r1.now ∷ a.r2.now ∷ a.r3.now ∷ [])) =
     call_allowed _ _ _ _ _ _ _ _ _ c.remarks_fault-rest.result c.fields_fault-judged.result c.remarks_fault-rest.ensures c.fields_fault-judged.ensures c.in_default.is in
     let z = sizes _ _ _ _ _ _ _ _ _ allowed in
     omega (arith, z.sealed_most, z.remarks_few, c.remark_size.ensures, c.remark_size-2.ensures)
 
 pub overflow_add-n-4 : goal.overflow_add-n-4
 overflow_add-n-4 c =
-    let allowed : Allowed (fields c) =
+    let allowed : Allowed (let a = c.args in fields_given a.number.now a.iv.now a.sealed.now a.tag.now a.kinds.now (a.r0.now ∷ a.r1.now ∷ a.r2.now ∷ a.r3.now ∷ [])) =
     call_allowed _ _ _ _ _ _ _ _ _ c.remarks_fault-rest.result c.fields_fault-judged.result c.remarks_fault-rest.ensures c.fields_fault-judged.ensures c.in_default.is in
     let z = sizes _ _ _ _ _ _ _ _ _ allowed in
     omega (arith, z.sealed_most, z.remarks_few, c.remark_size.ensures, c.remark_size-2.ensures, c.remark_size-3.ensures)
 
 pub overflow_add-n-5 : goal.overflow_add-n-5
 overflow_add-n-5 c =
-    let allowed : Allowed (fields c) =
+    let allowed : Allowed (let a = c.args in fields_given a.number.now a.iv.now a.sealed.now a.tag.now a.kinds.now (a.r0.now ∷ a.r1.now ∷ a.r2.now ∷ a.r3.now ∷ [])) =
     call_allowed _ _ _ _ _ _ _ _ _ c.remarks_fault-rest.result c.fields_fault-judged.result c.remarks_fault-rest.ensures c.fields_fault-judged.ensures c.in_default.is in
     let z = sizes _ _ _ _ _ _ _ _ _ allowed in
     omega (arith, z.sealed_most, z.remarks_few, c.remark_size.ensures, c.remark_size-2.ensures, c.remark_size-3.ensures, c.remark_size-4.ensures)
 
 pub returns-then-out-n : goal.returns-then-out-n
 returns-then-out-n c =
-    let allowed : Allowed (fields c) =
+    let allowed : Allowed (let a = c.args in fields_given a.number.now a.iv.now a.sealed.now a.tag.now a.kinds.now (a.r0.now ∷ a.r1.now ∷ a.r2.now ∷ a.r3.now ∷ [])) =
     call_allowed _ _ _ _ _ _ _ _ _ c.remarks_fault-rest.result c.fields_fault-judged.result c.remarks_fault-rest.ensures c.fields_fault-judged.ensures c.in_default.is in
     write_no_room _ _ _ _ _ _ _ _ _ allowed _
     (omega (arith, c.if-out-n.true, c.remark_size.ensures, c.remark_size-2.ensures, c.remark_size-3.ensures, c.remark_size-4.ensures))
 
 pub put_fixed-at-requires : goal.put_fixed-at-requires
 put_fixed-at-requires c =
-    let allowed : Allowed (fields c) =
+    let allowed : Allowed (let a = c.args in fields_given a.number.now a.iv.now a.sealed.now a.tag.now a.kinds.now (a.r0.now ∷ a.r1.now ∷ a.r2.now ∷ a.r3.now ∷ [])) =
     call_allowed _ _ _ _ _ _ _ _ _ c.remarks_fault-rest.result c.fields_fault-judged.result c.remarks_fault-rest.ensures c.fields_fault-judged.ensures c.in_default.is in
     let z = sizes _ _ _ _ _ _ _ _ _ allowed in
     omega (arith, z.number8, z.iv16, z.tag16, c.if-out-n.false)
 
 pub put_remarks-requires : goal.put_remarks-requires
 put_remarks-requires c =
-    let allowed : Allowed (fields c) =
+    let allowed : Allowed (let a = c.args in fields_given a.number.now a.iv.now a.sealed.now a.tag.now a.kinds.now (a.r0.now ∷ a.r1.now ∷ a.r2.now ∷ a.r3.now ∷ [])) =
     call_allowed _ _ _ _ _ _ _ _ _ c.remarks_fault-rest.result c.fields_fault-judged.result c.remarks_fault-rest.ensures c.fields_fault-judged.ensures c.in_default.is in
     let a = c.args in
     let z = sizes _ _ _ _ _ _ _ _ _ allowed in
@@ -79,7 +73,7 @@ put_remarks-requires c =
 
 pub returns : goal.returns
 returns c =
-    let allowed : Allowed (fields c) =
+    let allowed : Allowed (let a = c.args in fields_given a.number.now a.iv.now a.sealed.now a.tag.now a.kinds.now (a.r0.now ∷ a.r1.now ∷ a.r2.now ∷ a.r3.now ∷ [])) =
     call_allowed _ _ _ _ _ _ _ _ _ c.remarks_fault-rest.result c.fields_fault-judged.result c.remarks_fault-rest.ensures c.fields_fault-judged.ensures c.in_default.is in
     write_all _ _ _ _ _ _ _ _ _ allowed _ _ _ _ _
     (omega (arith, c.remark_size.ensures, c.remark_size-2.ensures, c.remark_size-3.ensures, c.remark_size-4.ensures))

@@ -28,24 +28,32 @@ overflow_mul-from-then-fixed_coding c = omega (arith, c.requires.2.1)
 pub overflow_add-from-then-fixed_coding : goal.overflow_add-from-then-fixed_coding
 overflow_add-from-then-fixed_coding c = omega (arith, c.requires.2.1)
 
--- where it is taken over from
-room : (c : goal.After-struct_known-then-fixed_coding-1)
-    → let e = c.before.before.before.before.before.before.before.before in
-    (32 + 8 * e.args.rule.to ≤ e.args.k + 8 * e.args.rule.from) × (e.args.k + 8 * e.args.rule.from - (32 + 8 * e.args.rule.to) < e.args.k)
-room c =
-    let e = c.before.before.before.before.before.before.before.before in
-    let h = fixed_known _ _ (known c.before.before) in
-    (omega (arith, h.0, e.requires.2.1), omega (arith, h.0, e.requires.2.0))
-
 pub overflow_sub-from : goal.overflow_sub-from
-overflow_sub-from c = (room c).0
+overflow_sub-from c =
+    let known : fixed_coding (planned c.args.rule c.args.set.now) c.args.k ≡ true =
+    sym (c.fixed_coding.ensures c.args.set.now) ∙ c.if-fixed_coding.true in
+    let room : let e = c.before.before.before.before.before.before.before.before in (32 + 8 * e.args.rule.to ≤ e.args.k + 8 * e.args.rule.from) × (e.args.k + 8 * e.args.rule.from - (32 + 8 * e.args.rule.to) < e.args.k) =
+    let h = fixed_known _ _ known in
+    (omega (arith, h.0, c.requires.2.1), omega (arith, h.0, c.requires.2.0)) in
+    room.0
 
 pub overflow_mul-from-then-fixed_coding-2 : goal.overflow_mul-from-then-fixed_coding-2
-overflow_mul-from-then-fixed_coding-2 c = omega (arith, (room c.before).1, c.requires.3)
+overflow_mul-from-then-fixed_coding-2 c =
+    let known : fixed_coding (planned c.args.rule c.args.set.now) c.args.k ≡ true =
+    sym (c.fixed_coding.ensures c.args.set.now) ∙ c.if-fixed_coding.true in
+    let room : let e = c.before.before.before.before.before.before.before.before in (32 + 8 * e.args.rule.to ≤ e.args.k + 8 * e.args.rule.from) × (e.args.k + 8 * e.args.rule.from - (32 + 8 * e.args.rule.to) < e.args.k) =
+    let h = fixed_known _ _ known in
+    (omega (arith, h.0, c.requires.2.1), omega (arith, h.0, c.requires.2.0)) in
+    omega (arith, room.1, c.requires.3)
 
 pub block_at-coding-requires : goal.block_at-coding-requires
 block_at-coding-requires c =
-    let b : 16 * (c.args.k + 8 * c.args.rule.from - (32 + 8 * c.args.rule.to)) + 16 ≤ length c.args.out.now = omega (arith, (room c.before).1, c.requires.4) in
+    let known : fixed_coding (planned c.args.rule c.args.set.now) c.args.k ≡ true =
+    sym (c.fixed_coding.ensures c.args.set.now) ∙ c.if-fixed_coding.true in
+    let room : let e = c.before.before.before.before.before.before.before.before in (32 + 8 * e.args.rule.to ≤ e.args.k + 8 * e.args.rule.from) × (e.args.k + 8 * e.args.rule.from - (32 + 8 * e.args.rule.to) < e.args.k) =
+    let h = fixed_known _ _ known in
+    (omega (arith, h.0, c.requires.2.1), omega (arith, h.0, c.requires.2.0)) in
+    let b : 16 * (c.args.k + 8 * c.args.rule.from - (32 + 8 * c.args.rule.to)) + 16 ≤ length c.args.out.now = omega (arith, room.1, c.requires.4) in
     b
 
 pub put_block-requires : goal.put_block-requires
