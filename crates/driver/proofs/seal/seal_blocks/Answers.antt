@@ -23,7 +23,7 @@ loop-k-preserved c =
       omega arith,
       seal_end a.body.now a.iv a.coded.now a.out.now l.k l.x _ _ l.out l.invariant.1 m y l.invariant.2,
       p.ensures ∙ seal_turn a.body.now a.iv a.coded.now a.out.now l.k l.x _ _ l.out l.invariant.1 m y l.invariant.2,
-      p.auto.0 ∙ l.invariant.3,
+      p.auto.d ∙ l.invariant.3,
     )
 
 pub returns : goal.returns

@@ -13,7 +13,7 @@ round_of-requires c =
 pub loop-l-preserved : goal.loop-l-preserved
 loop-l-preserved c =
     let o = c.round_of in
-    (omega arith, rounded_more _ _ _ c.requires.3 _ _ _ o.auto.1.1.0 c.loop-l.invariant.1 o.ensures)
+    (omega arith, rounded_more _ _ _ c.requires.3 _ _ _ o.auto.out c.loop-l.invariant.1 o.ensures)
 
 pub shape_of-out : goal.shape_of-out
 shape_of-out c = c.loop-l.invariant.1.len
