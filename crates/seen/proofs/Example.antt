@@ -1,7 +1,6 @@
 -- The examples come out by computation.
 use mathlib.Core.Path.{refl, ap₂, ◌∙◌}
 use Prim.Native.Nat.{ℕ, ◌+◌}
-use lib.Bits.{bit_or}
 use lib.Count.{ones_cat, ones-ones}
 use lib.Dec.{lit<}
 use Rattle.seen.specs.SeenWord.{seen_word}

@@ -1,5 +1,5 @@
 -- `chain::all_masks_hold` meets its contract. The invariant: the masks of the first l rounds hold.
-use Rattle.std.proofs.Common.{◌≡◌, ℕ, ◌+◌, ◌*◌, true, List, sym, refl, ap, ◌∙◌, arith, length-drop}
+use Rattle.std.proofs.Common.{◌≡◌, ℕ, ◌+◌, ◌*◌, List, sym, refl, ap, ◌∙◌, arith, length-drop}
 use Rattle.lists.specs.Every.{every}
 use Rattle.lists.proofs.EveryLaws.{every_not}
 use Rattle.lists.proofs.PartLaws.{part_end}

@@ -1,5 +1,5 @@
 -- `chain::are_permutations` meets its contract. The invariant: the first k codings are permutations.
-use Rattle.std.proofs.Common.{◌≡◌, ℕ, true, sym, refl, ap, ◌∙◌, arith}
+use Rattle.std.proofs.Common.{◌≡◌, ℕ, sym, refl, ap, ◌∙◌, arith}
 use Rattle.lists.specs.Every.{every}
 use Rattle.lists.proofs.EveryLaws.{every_not}
 use Rattle.cipher.specs.Chain.{are_permutations}

@@ -1,5 +1,5 @@
 -- `chain::masks_hold` meets its contract. The invariant: the first k masks are bits.
-use Rattle.std.proofs.Common.{◌≡◌, ℕ, ◌+◌, true, ltb, get_or, sym, refl, ap, ◌∙◌, arith, le-ltb, lt-ltb}
+use Rattle.std.proofs.Common.{◌≡◌, ℕ, ◌+◌, ltb, get_or, sym, refl, ap, ◌∙◌, arith, le-ltb, lt-ltb}
 use Rattle.lists.specs.Every.{every}
 use Rattle.lists.proofs.EveryLaws.{every_not}
 use Rattle.cipher.proofs.CheckLaws.{every_next}
