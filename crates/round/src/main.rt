@@ -4,21 +4,20 @@
 
 #![tactic(auto)]
 
-ghost use Rattle.std.specs.Prelude.{◌≡◌, ◌≤◌, length};
-ghost use Rattle.io.specs.Counts.{IsPrefixLen};
+ghost use Rattle.std.specs.Prelude.{◌≡◌, ◌≢◌, ◌≤◌, length, IfErr, OnErr};
+ghost use Rattle.std.specs.Io.{ReadsAtMost};
+ghost use Rattle.std.specs.IoError.{error_kind};
 ghost use Rattle.round.specs.Round.{wanted as wanted_bytes};
 
 use cipher::invert::wide;
 use cipher::lengths;
 use cipher::size::{KeySize, SizeFound};
+use std::io;
+use std::io::{ErrorKind, Read};
 
 mod text; // text.rt: lines and refusals
 mod rounds; // rounds.rt: the rounds, by the tables of one at a time
 mod report; // report.rt: what is printed for any input
-
-const STDIN: i32 = 0;
-
-const STDOUT: i32 = 1;
 
 // The longest input, that of a key of 32 bytes and so 32 rounds: length byte, key, chain, block.
 const LONGEST: usize = 1
@@ -43,26 +42,55 @@ fn wanted(first: u8) -> usize
     1 + size.key_len() + size.chain_len() + lengths::BLOCK
 }
 
-// Reads the input and no later byte, and answers how many bytes there were of it.
-fn read_input(input: &mut [u8]) -> usize
+// Reads until the part is full or the input ends, and answers how many bytes it put at the part's start. A read that
+// a signal interrupts is tried again.
+fn read_full(from: &mut impl Read, part: &mut [u8]) -> io::Result<usize>
+    ensures ok { ReadsAtMost result part.new }
+    ensures err { OnErr result (length part.new ≡ length part.old) }
+    ensures retried { IfErr result (λ e. error_kind e ≢ ErrorKind.Interrupted) }
+{
+    let mut done = 0;
+    for _ in 0..u64::MAX {
+        if done >= part.len() {
+            return Ok(done);
+        }
+        match from.read(&mut part[done..]) {
+            Ok(0) => return Ok(done),
+            Ok(n) => done += n,
+            Err(e) => {
+                if e.kind() != ErrorKind::Interrupted {
+                    return Err(e);
+                }
+            }
+        }
+    }
+    Err(io::Error::from(ErrorKind::TimedOut))
+}
+
+// Reads the input and no later byte, and answers how many bytes there were of it. A read that fails leaves a buffer of
+// the same length.
+fn read_input(from: &mut impl Read, input: &mut [u8]) -> io::Result<usize>
     requires { length input.old ≡ 30513 }
-    ensures { IsPrefixLen result input.new }
+    ensures ok { ReadsAtMost result input.new }
+    ensures err { OnErr result (length input.new ≡ length input.old) }
+    ensures retried { IfErr result (λ e. error_kind e ≢ ErrorKind.Interrupted) }
 {
     let mut head = [0u8; 1];
-    if io::read_full(STDIN, &mut head) == 0 {
-        return 0;
+    if read_full(from, &mut head)? == 0 {
+        return Ok(0);
     }
     let first = head[0];
     let end = wanted(first);
     input[0] = first;
-    1 + io::read_full(STDIN, &mut input[1..end])
+    let n = read_full(from, &mut input[1..end])?;
+    Ok(1 + n)
 }
 
-fn main() {
+fn main(rt: HostRuntime) -> io::Result<()> {
     let mut input = room();
-    let n = read_input(&mut input);
+    let n = read_input(&mut rt.stdin(), &mut input)?;
     let told = report::report(&input[..n]);
     let text = told.text;
     let length = told.length;
-    io::write_all(STDOUT, &text[..length]);
+    rt.write_all(&text[..length])
 }

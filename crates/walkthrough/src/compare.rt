@@ -3,6 +3,7 @@ ghost use Rattle.std.specs.Prelude.{◌≤◌, ◌<◌};
 
 use crate::print::{plain, say};
 use cipher::lengths;
+use std::io;
 
 // The blocks of the ink file, the last one begun.
 const BLOCKS: usize = 589;
@@ -38,40 +39,43 @@ fn differ_in(a: &[u8], b: &[u8], block: usize) -> usize
 }
 
 // A line for a block of which n bytes differ, and none where none do.
-fn tell(block: usize, n: usize) {
+fn tell(rt: &impl Print, block: usize, n: usize) -> io::Result<()> {
     if n == 0 {
-        return;
+        return Ok(());
     }
-    say(b"        block ");
-    plain(block);
-    say(b" is not the pad's: bytes spoiled ");
-    plain(n);
-    say(b"\n");
+    say(rt, b"        block ")?;
+    plain(rt, block)?;
+    say(rt, b" is not the pad's: bytes spoiled ")?;
+    plain(rt, n)?;
+    say(rt, b"\n")
 }
 
 // A line for each block that differs; how many bytes do in all.
-fn spoiled(message: &[u8], ink: &[u8]) -> usize {
+fn spoiled(rt: &impl Print, message: &[u8], ink: &[u8]) -> io::Result<usize> {
     let mut n: usize = 0;
     for block in 0..BLOCKS {
         let more = differ_in(message, ink, block);
-        tell(block, more);
+        tell(rt, block, more)?;
         n += more;
     }
-    n
+    Ok(n)
 }
 
 // Whether the message is the pad's ink file, and if not, what of it is spoiled.
-pub fn compare(message: &[u8], ink: &[u8]) {
+pub fn compare(rt: &impl Print, message: &[u8], ink: &[u8]) -> io::Result<()> {
     if message.len() != ink.len() {
-        return say(b"        its length is not that of the pad's ink file\n");
+        return say(
+            rt,
+            b"        its length is not that of the pad's ink file\n",
+        );
     }
-    let n = spoiled(message, ink);
+    let n = spoiled(rt, message, ink)?;
     if n == 0 {
-        return say(b"        it is the pad's ink file\n");
+        return say(rt, b"        it is the pad's ink file\n");
     }
-    say(b"        spoiled in all: bytes ");
-    plain(n);
-    say(b" of ");
-    plain(message.len());
-    say(b"\n");
+    say(rt, b"        spoiled in all: bytes ")?;
+    plain(rt, n)?;
+    say(rt, b" of ")?;
+    plain(rt, message.len())?;
+    say(rt, b"\n")
 }

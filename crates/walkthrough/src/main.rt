@@ -8,6 +8,7 @@
 ghost use Rattle.std.specs.Prelude.{◌≡◌, length};
 
 use cipher::lengths;
+use std::io;
 
 mod made; // made.rt: the key, the chain and the ink
 mod compare; // compare.rt: what of an opened message is spoiled
@@ -32,17 +33,20 @@ fn book_room() -> [u8; BOOK]
 }
 
 // The book of the next pad, which has a key and a chain of its own.
-fn next_pad() {
+fn next_pad(rt: &impl Print) -> io::Result<()> {
     let key = made::key(2);
     let mut chain = chain_room();
     made::chain(2, &mut chain);
     let mut book = book_room();
-    print::say(b"\nThursday, at the works\n7. The works builds the next pad's book\n");
-    stations::works(&key, &chain, &mut book);
+    print::say(
+        rt,
+        b"\nThursday, at the works\n7. The works builds the next pad's book\n",
+    )?;
+    stations::works(rt, &key, &chain, &mut book)
 }
 
 // The way of one ink file, the next pad's book, and the end of that way with damage.
-fn one_pad() {
+fn one_pad(rt: &impl Print) -> io::Result<()> {
     let key = made::key(1);
     let mut chain = chain_room();
     made::chain(1, &mut chain);
@@ -50,16 +54,20 @@ fn one_pad() {
     let iv = made::key(3);
     let mut book = book_room();
     let mut sealed = stations::room();
-    let tag = stations::front(&key, &chain, &ink, &iv, &mut book, &mut sealed);
-    stations::back(&key, &chain, &ink, &iv, &sealed, &tag);
-    next_pad();
-    stations::damaged(&key, &chain, &ink, &iv, &sealed, &tag);
+    let tag = stations::front(rt, &key, &chain, &ink, &iv, &mut book, &mut sealed)?;
+    stations::back(rt, &key, &chain, &ink, &iv, &sealed, &tag)?;
+    next_pad(rt)?;
+    stations::damaged(rt, &key, &chain, &ink, &iv, &sealed, &tag)
 }
 
-fn main() {
-    print::say(b"Bowlinette: one ink file from the pad to the loan desk\n");
+fn main(rt: HostRuntime) -> io::Result<()> {
     print::say(
+        &rt,
+        b"Bowlinette: one ink file from the pad to the loan desk\n",
+    )?;
+    print::say(
+        &rt,
         b"A line shows what goes in or out, its length, and its first and last four bytes in hex.\n\n",
-    );
-    one_pad();
+    )?;
+    one_pad(&rt)
 }
