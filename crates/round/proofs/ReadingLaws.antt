@@ -1,4 +1,4 @@
--- Laws of reading and writing: bytes counted at the front of a buffer, as the kit's `io` counts them.
+-- Laws of reading and writing: bytes counted at the front of a buffer, as `ReadsAtMost` of std counts them.
 use mathlib.Core.Path.{◌≡◌, refl, sym, ap, ◌∙◌}
 use mathlib.Core.List.{List, ◌++◌}
 use Prim.Native.Nat.{ℕ, ◌+◌, ◌-◌, ◌≤◌}
@@ -6,10 +6,13 @@ use native.Mathlib.Omega.{arith}
 use borrow.Rule.Slice.PartMut.{same_len_mid, mid_len}
 use lib.ListN.{length, take, drop, set, replicate, length-set, length-append}
 use lib.Seq.{length-take-le}
-use Rattle.io.specs.Counts.{IsPrefixLen}
 use Rattle.round.specs.Text.{shown}
 
-counts : (n m : ℕ) (xs : List ℕ) → length xs ≡ m → n ≤ m → IsPrefixLen n xs
+-- the first n of xs are there, and are n
+abbrev pub IsPrefixLen : ℕ → List ℕ → Type 0
+IsPrefixLen n xs = (n ≤ length xs) × (n ≡ length (take n xs))
+
+pub counts : (n m : ℕ) (xs : List ℕ) → length xs ≡ m → n ≤ m → IsPrefixLen n xs
 counts n m xs e h =
     let l : n ≤ length xs = omega arith in
     (l, sym (length-take-le n xs l))

@@ -10,7 +10,7 @@ use lib.Dec.{lit<}
 use lib.ListN.{length, get_or, drop, set, replicate, length-append}
 use Rattle.lists.specs.Tabulation.{tab, chunks}
 use Rattle.lists.proofs.PartLaws.{grown, fill_more}
-use Rattle.io.specs.Digits.{hex_digit_ascii}
+use Rattle.round.specs.Digits.{hex_digit_ascii}
 use Rattle.round.specs.Text.{hex_of, hex_digit, line, decimal_within, decimal, refused_word, refused_text, shown}
 
 pub digit_low : (d : ℕ) → d < 10 → 48 + d ≡ hex_digit_ascii d

@@ -1,9 +1,9 @@
 -- What the round program prints (document 01, "Table of examples", its last paragraph): "refused N", or lines of a round
--- number, a space and a block in lower-case hex. `digits` is the kit's: the last k digits of a number, in lower case.
+-- number, a space and a block in lower-case hex.
 use Rattle.std.specs.Prelude.{cond, List, [], ◌∷◌, ◌++◌, ℕ, zero, suc, ◌-◌, ◌/◌, ◌%◌, eqb, ltb, length, get_or, replicate}
 use Rattle.lists.specs.Blocks.{block_length}
 use Rattle.lists.specs.Tabulation.{chunks}
-use Rattle.io.specs.Digits.{hex_digit_ascii, last_digits}
+use Rattle.round.specs.Digits.{hex_digit_ascii, last_digits}
 use Rattle.round.specs.declared.text.Report.{Report}
 
 -- a block in hex: two digits a byte

@@ -1,6 +1,6 @@
 // What the round program prints: two lines, or a refusal.
 ghost use Rattle.std.specs.Prelude.{◌≡◌, ◌++◌, ◌≤◌, ◌<◌, length, drop};
-ghost use Rattle.io.specs.Digits.{hex_digit_ascii};
+ghost use Rattle.round.specs.Digits.{hex_digit_ascii};
 ghost use Rattle.round.specs.Text.{hex_digit, hex_of, line, decimal, refused_text, shown, report_told};
 
 // The bytes of two lines, the longest text: 2 and 3 in front of a block, 32 for it, a newline.
