@@ -13,7 +13,7 @@ fn link(root: &str, library: &str) {
     println!("cargo:rustc-link-search=native={}", folder.display());
     if !archive.is_file() {
         eprintln!(
-            "{} is missing: run `rt staticlib {library}` at the root of the repository first",
+            "{} is missing: run `bash tools/build` at the root of the repository first",
             archive.display()
         );
         exit(1);

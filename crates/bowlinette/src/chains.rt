@@ -6,13 +6,7 @@ ghost use Rattle.maker.specs.Answers.{make_answer, make_reading_answer};
 use crate::deliver_length;
 
 // A chain for a key of n bytes into the front of out, and how many random bytes were drawn into drawn.
-#[unsafe(no_mangle)]
-pub extern "C" fn bowlinette_make_chain(
-    n: usize,
-    random: &[u8],
-    out: &mut [u8],
-    drawn: &mut u64,
-) -> u32
+pub fn bowlinette_make_chain(n: usize, random: &[u8], out: &mut [u8], drawn: &mut u64) -> u32
     ensures { ((result, drawn.new), out.new) ≡ kept (make_answer n random.now out.old) drawn.old }
 {
     let made = maker::make::make_chain(n, random, out);
@@ -20,8 +14,7 @@ pub extern "C" fn bowlinette_make_chain(
 }
 
 // A reading chain for a key of n bytes, whose set 0 is given.
-#[unsafe(no_mangle)]
-pub extern "C" fn bowlinette_make_reading_chain(
+pub fn bowlinette_make_reading_chain(
     n: usize,
     set: &[u8],
     random: &[u8],

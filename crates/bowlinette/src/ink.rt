@@ -40,8 +40,7 @@ fn numbers(ink: Ink) -> [u64; 18]
 }
 
 // Where the fields of an ink file stand, into ink.
-#[unsafe(no_mangle)]
-pub extern "C" fn bowlinette_read_ink(file: &[u8], ink: &mut [u64; 18]) -> u32
+pub fn bowlinette_read_ink(file: &[u8], ink: &mut [u64; 18]) -> u32
     ensures { (result, ink.new) ≡ into (ink_numbers (read_ink_answer file.now)) ink.old }
 {
     let found = inkfile::read::read_ink(file);
@@ -54,8 +53,7 @@ pub extern "C" fn bowlinette_read_ink(file: &[u8], ink: &mut [u64; 18]) -> u32
 }
 
 // The fields of an ink file written into the front of out, and the length of the file into length.
-#[unsafe(no_mangle)]
-pub extern "C" fn bowlinette_write_ink(
+pub fn bowlinette_write_ink(
     number: &[u8],
     iv: &[u8],
     sealed: &[u8],

@@ -1,6 +1,7 @@
-// The C interface; include/bowlinette.h declares the same. Every function answers 0, or the number of
-// a refusal, in which case nothing behind a pointer has changed. Where there is a key, `schedule` in front of
-// it is 0 for LEA's own and 1 for WF-LEA's; any other number is refused before all else (34).
+// What the C interface does: crate `bowlinette_c` exports each function named `bowlinette_..` to C, and
+// include/bowlinette.h declares the same. Each of these answers 0, or the number of a refusal, in which case
+// nothing behind a reference has changed. Where there is a key, `schedule` in front of it is 0 for LEA's own and 1
+// for WF-LEA's; any other number is refused before all else (34).
 
 #![tactic(auto)]
 
@@ -18,10 +19,10 @@ use cipher::answer::BlockAnswer;
 use cipher::refusal::Written;
 use pad::code::TagCode;
 
-mod chains; // chains.rt: chains from random bytes
-mod ink; // ink.rt: ink files
-mod review; // review.rt: reading tables
-mod session; // session.rt: the tag session
+pub mod chains; // chains.rt: chains from random bytes
+pub mod ink; // ink.rt: ink files
+pub mod review; // review.rt: reading tables
+pub mod session; // session.rt: the tag session
 
 // An answer's block into out, and its number.
 pub fn deliver(a: BlockAnswer, out: &mut [u8; 16]) -> u32
@@ -67,34 +68,21 @@ pub fn deliver_verdict(c: Checked, valid: &mut u8) -> u32
 }
 
 // A block enciphered under a key, into out.
-#[unsafe(no_mangle)]
-pub extern "C" fn bowlinette_encipher(
-    schedule: u8,
-    key: &[u8],
-    block: &[u8],
-    out: &mut [u8; 16],
-) -> u32
+pub fn bowlinette_encipher(schedule: u8, key: &[u8], block: &[u8], out: &mut [u8; 16]) -> u32
     ensures { (result, out.new) ≡ into (encipher_answer schedule key.now block.now) out.old }
 {
     deliver(cipher::lea::encipher(schedule, key, block), out)
 }
 
 // A block deciphered under a key, into out.
-#[unsafe(no_mangle)]
-pub extern "C" fn bowlinette_decipher(
-    schedule: u8,
-    key: &[u8],
-    block: &[u8],
-    out: &mut [u8; 16],
-) -> u32
+pub fn bowlinette_decipher(schedule: u8, key: &[u8], block: &[u8], out: &mut [u8; 16]) -> u32
     ensures { (result, out.new) ≡ into (decipher_answer schedule key.now block.now) out.old }
 {
     deliver(cipher::lea::decipher(schedule, key, block), out)
 }
 
 // A block after the first rounds under a key, all of them where the count is more, into out.
-#[unsafe(no_mangle)]
-pub extern "C" fn bowlinette_first_rounds(
+pub fn bowlinette_first_rounds(
     schedule: u8,
     key: &[u8],
     rounds: usize,
@@ -107,13 +95,7 @@ pub extern "C" fn bowlinette_first_rounds(
 }
 
 // The six round keys of a round of a key, the round taken mod its rounds, into row.
-#[unsafe(no_mangle)]
-pub extern "C" fn bowlinette_round_keys(
-    schedule: u8,
-    key: &[u8],
-    round: usize,
-    row: &mut [u32; 6],
-) -> u32
+pub fn bowlinette_round_keys(schedule: u8, key: &[u8], round: usize, row: &mut [u32; 6]) -> u32
     ensures { (result, row.new) ≡ into (row_answer schedule key.now round) row.old }
 {
     let a = cipher::lea::round_keys(schedule, key, round);
@@ -127,24 +109,21 @@ pub extern "C" fn bowlinette_round_keys(
 }
 
 // Whether a set that comes alone is one.
-#[unsafe(no_mangle)]
-pub extern "C" fn bowlinette_check_set(set: &[u8]) -> u32
+pub fn bowlinette_check_set(set: &[u8]) -> u32
     ensures { result ≡ set_checked set.now }
 {
     cipher::chain::check_set(set).number()
 }
 
 // Whether a chain is one for a key of n bytes.
-#[unsafe(no_mangle)]
-pub extern "C" fn bowlinette_check_chain(n: usize, chain: &[u8]) -> u32
+pub fn bowlinette_check_chain(n: usize, chain: &[u8]) -> u32
     ensures { result ≡ chain_checked n chain.now }
 {
     cipher::chain::check_chain(n, chain).number()
 }
 
 // The book of a key and a chain, into the front of out.
-#[unsafe(no_mangle)]
-pub extern "C" fn bowlinette_build(schedule: u8, key: &[u8], chain: &[u8], out: &mut [u8]) -> u32
+pub fn bowlinette_build(schedule: u8, key: &[u8], chain: &[u8], out: &mut [u8]) -> u32
     ensures { (result, out.new) ≡ build_answer schedule key.now chain.now out.old }
 {
     let outcome = book::build::build(schedule, key, chain, out);
@@ -152,8 +131,7 @@ pub extern "C" fn bowlinette_build(schedule: u8, key: &[u8], chain: &[u8], out: 
 }
 
 // The tables of one round of that book, the round taken mod its rounds, into the front of out.
-#[unsafe(no_mangle)]
-pub extern "C" fn bowlinette_build_round(
+pub fn bowlinette_build_round(
     schedule: u8,
     key: &[u8],
     chain: &[u8],
@@ -168,8 +146,7 @@ pub extern "C" fn bowlinette_build_round(
 
 // A message coded for sealing by the set u, into the front of out, and the length of that into
 // length.
-#[unsafe(no_mangle)]
-pub extern "C" fn bowlinette_code_for_sealing(
+pub fn bowlinette_code_for_sealing(
     u: &[u8],
     message: &[u8],
     out: &mut [u8],
@@ -182,8 +159,7 @@ pub extern "C" fn bowlinette_code_for_sealing(
 
 // A message coded for a tag by the set u, into the front of out, the length of that into length,
 // and its kind into kind.
-#[unsafe(no_mangle)]
-pub extern "C" fn bowlinette_code_for_tag(
+pub fn bowlinette_code_for_tag(
     u: &[u8],
     message: &[u8],
     out: &mut [u8],
@@ -204,21 +180,14 @@ pub extern "C" fn bowlinette_code_for_tag(
 }
 
 // A block by the tables of one round, into out.
-#[unsafe(no_mangle)]
-pub extern "C" fn bowlinette_run_round(tables: &[u8], block: &[u8], out: &mut [u8; 16]) -> u32
+pub fn bowlinette_run_round(tables: &[u8], block: &[u8], out: &mut [u8; 16]) -> u32
     ensures { (result, out.new) ≡ into (D.run_round_answer tables.now block.now) out.old }
 {
     deliver(driver::run::run_round(tables, block), out)
 }
 
 // A block by the first rounds of a book, all of them where the count is more, into out.
-#[unsafe(no_mangle)]
-pub extern "C" fn bowlinette_run_rounds(
-    book: &[u8],
-    rounds: usize,
-    block: &[u8],
-    out: &mut [u8; 16],
-) -> u32
+pub fn bowlinette_run_rounds(book: &[u8], rounds: usize, block: &[u8], out: &mut [u8; 16]) -> u32
     ensures { (result, out.new) ≡ into (D.run_rounds_answer book.now rounds block.now) out.old }
 {
     deliver(driver::run::run_rounds(book, rounds, block), out)
@@ -226,8 +195,7 @@ pub extern "C" fn bowlinette_run_rounds(
 
 // A coded message sealed by a book from a coded IV, into the front of out, and the length of that
 // into length.
-#[unsafe(no_mangle)]
-pub extern "C" fn bowlinette_seal(
+pub fn bowlinette_seal(
     book: &[u8],
     iv: &[u8],
     coded: &[u8],
@@ -241,8 +209,7 @@ pub extern "C" fn bowlinette_seal(
 
 // A sealed file opened under a key with its set r and its IV: the message into the front of out,
 // and its length into length.
-#[unsafe(no_mangle)]
-pub extern "C" fn bowlinette_open(
+pub fn bowlinette_open(
     schedule: u8,
     key: &[u8],
     set: &[u8],
@@ -261,8 +228,7 @@ pub extern "C" fn bowlinette_open(
 
 // Whether a tag, coded by set r, is that of a message under a key: 1 for Valid, 0 for Invalid, into
 // valid.
-#[unsafe(no_mangle)]
-pub extern "C" fn bowlinette_check(
+pub fn bowlinette_check(
     schedule: u8,
     key: &[u8],
     set: &[u8],
@@ -279,14 +245,7 @@ pub extern "C" fn bowlinette_check(
 }
 
 // Whether a tag is Valid for a message: 1 for Valid, 0 for Invalid and for every refusal.
-#[unsafe(no_mangle)]
-pub extern "C" fn bowlinette_is_valid(
-    schedule: u8,
-    key: &[u8],
-    set: &[u8],
-    message: &[u8],
-    tag: &[u8],
-) -> u32
+pub fn bowlinette_is_valid(schedule: u8, key: &[u8], set: &[u8], message: &[u8], tag: &[u8]) -> u32
     ensures { result ≡ valid_only (R.check_answer schedule key.now set.now message.now tag.now) }
 {
     match archive::check::check(schedule, key, set, message, tag) {

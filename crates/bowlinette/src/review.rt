@@ -7,21 +7,14 @@ ghost use Rattle.reader.specs.Answers.{read_answer};
 use crate::deliver_length;
 
 // Whether a reading chain is one for a key of n bytes.
-#[unsafe(no_mangle)]
-pub extern "C" fn bowlinette_check_reading_chain(n: usize, chain: &[u8]) -> u32
+pub fn bowlinette_check_reading_chain(n: usize, chain: &[u8]) -> u32
     ensures { result ≡ reading_chain_checked n chain.now }
 {
     reading_book::chain::check_reading_chain(n, chain).number()
 }
 
 // The reading book of a key and a reading chain, into the front of out.
-#[unsafe(no_mangle)]
-pub extern "C" fn bowlinette_build_reading(
-    schedule: u8,
-    key: &[u8],
-    chain: &[u8],
-    out: &mut [u8],
-) -> u32
+pub fn bowlinette_build_reading(schedule: u8, key: &[u8], chain: &[u8], out: &mut [u8]) -> u32
     ensures { (result, out.new) ≡ build_reading_answer schedule key.now chain.now out.old }
 {
     let outcome = reading_book::build::build_reading(schedule, key, chain, out);
@@ -30,8 +23,7 @@ pub extern "C" fn bowlinette_build_reading(
 
 // A sealed text read by a reading book from an IV, into the front of out, and the length of that into
 // length.
-#[unsafe(no_mangle)]
-pub extern "C" fn bowlinette_read(
+pub fn bowlinette_read(
     book: &[u8],
     iv: &[u8],
     sealed: &[u8],

@@ -60,8 +60,7 @@ fn deliver_session(n: u32, session: Session, s: &mut [u8; 19]) -> u32
 }
 
 // A fresh session on a book, into its record.
-#[unsafe(no_mangle)]
-pub extern "C" fn bowlinette_begin(s: &mut [u8; 19], book: &[u8]) -> u32
+pub fn bowlinette_begin(s: &mut [u8; 19], book: &[u8]) -> u32
     ensures { (result, s.new) ≡ into (recorded (D.begin_answer book.now)) s.old }
 {
     let a = driver::session::begin(book);
@@ -70,8 +69,7 @@ pub extern "C" fn bowlinette_begin(s: &mut [u8; 19], book: &[u8]) -> u32
 }
 
 // A block call on the session in a record.
-#[unsafe(no_mangle)]
-pub extern "C" fn bowlinette_block_call(s: &mut [u8; 19], book: &[u8], block: &[u8]) -> u32
+pub fn bowlinette_block_call(s: &mut [u8; 19], book: &[u8], block: &[u8]) -> u32
     ensures { (result, s.new) ≡ into (recorded (D.block_answer book.now block.now (session_in s.old))) s.old }
 {
     let held = *s;
@@ -81,8 +79,7 @@ pub extern "C" fn bowlinette_block_call(s: &mut [u8; 19], book: &[u8], block: &[
 }
 
 // A last call on the session in a record, its tag into tag.
-#[unsafe(no_mangle)]
-pub extern "C" fn bowlinette_last_call(
+pub fn bowlinette_last_call(
     s: &mut [u8; 19],
     book: &[u8],
     block: &[u8],

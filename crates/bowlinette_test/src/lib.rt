@@ -1,6 +1,6 @@
-// What the tests and the bench call beside the C interface, as a library of its own; no product links
-// it. The two round trips have scratch buffers, in which a refusal leaves what was written before it. Schedules
-// are numbered as in the C interface.
+// What the tests and the bench call beside the C interface: crate `bowlinette_test_c` exports the four functions
+// named `bowlinette_..`, in a static library of its own; no product links it. The two round trips have scratch
+// buffers, in which a refusal leaves what was written before it. Schedules are numbered as in the C interface.
 
 #![tactic(auto)]
 
@@ -20,13 +20,7 @@ use cipher::size::{KeySize, SizeFound};
 const ONE_BLOCK: usize = 55;
 
 // For the benchmark: the CBC-MAC of the whole blocks of a text, into out.
-#[unsafe(no_mangle)]
-pub extern "C" fn bowlinette_cbc_mac(
-    schedule: u8,
-    key: &[u8],
-    text: &[u8],
-    out: &mut [u8; 16],
-) -> u32
+pub fn bowlinette_cbc_mac(schedule: u8, key: &[u8], text: &[u8], out: &mut [u8; 16]) -> u32
     ensures { (result, out.new) ≡ into (cbc_mac_answer schedule key.now text.now) out.old }
 {
     let ScheduleFound::Numbered(named) = Schedule::of_number(schedule) else {
@@ -43,8 +37,7 @@ pub extern "C" fn bowlinette_cbc_mac(
 }
 
 // For the tests: SHA-256 of a message of one block, into out; a longer message is refused (8).
-#[unsafe(no_mangle)]
-pub extern "C" fn bowlinette_sha256(message: &[u8], out: &mut [u8; 32]) -> u32
+pub fn bowlinette_sha256(message: &[u8], out: &mut [u8; 32]) -> u32
     ensures { (result, out.new) ≡ into (sha256_answer message.now) out.old }
 {
     if ONE_BLOCK < message.len() {
@@ -57,8 +50,7 @@ pub extern "C" fn bowlinette_sha256(message: &[u8], out: &mut [u8; 32]) -> u32
 
 // For the tests: the round trip of a tag, the verdict into valid. Book and coded are scratch, of which a
 // refusal leaves what the calls before it wrote.
-#[unsafe(no_mangle)]
-pub extern "C" fn bowlinette_tag_roundtrip(
+pub fn bowlinette_tag_roundtrip(
     schedule: u8,
     key: &[u8],
     chain: &[u8],
@@ -77,8 +69,7 @@ pub extern "C" fn bowlinette_tag_roundtrip(
 
 // For the tests: the round trip of a sealed file, the message into the front of out, and its length into
 // length. Book, coded and sealed are scratch, of which a refusal leaves what the calls before it wrote.
-#[unsafe(no_mangle)]
-pub extern "C" fn bowlinette_seal_roundtrip(
+pub fn bowlinette_seal_roundtrip(
     schedule: u8,
     key: &[u8],
     chain: &[u8],

@@ -12,12 +12,12 @@ use std::sync::atomic::{AtomicUsize, Ordering};
 use std::thread;
 use std::time::Duration;
 
-/// The program, as `rt ci` and `rt check` leave it.
+/// The program, as tools/build leaves it.
 fn program() -> Command {
     let path = Path::new(env!("CARGO_MANIFEST_DIR")).join("../../target/bin/round");
     assert!(
         path.is_file(),
-        "{} is missing: run `rt check round` at the root of the repository first",
+        "{} is missing: run `bash tools/build round` at the root of the repository first",
         path.display()
     );
     Command::new(path)
