@@ -2,7 +2,6 @@
 use mathlib.Core.Path.{ap, ◌∙◌}
 use Prim.Native.Nat.{◌*◌}
 use native.Mathlib.Omega.{arith}
-use Rattle.words.specs.Word.{bytes}
 use Rattle.lists.proofs.BlockLaws.{bytes_of_lem}
 use Rattle.lists.proofs.PartLaws.{part_end}
 use Rattle.cipher.specs.Lea.{forward}

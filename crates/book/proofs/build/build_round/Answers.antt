@@ -2,7 +2,7 @@
 use mathlib.Core.Path.{sym, ◌∙◌}
 use native.Mathlib.Omega.{arith}
 use lib.Seq.{length-take-le}
-use Rattle.cipher.specs.KeySize.{key_length, rounds}
+use Rattle.cipher.specs.KeySize.{key_length}
 use Rattle.cipher.specs.Schedules.{Named}
 use Rattle.cipher.proofs.KeySizeLaws.{found_length, rounds_le, rounds_more}
 use Rattle.cipher.proofs.CheckLaws.{chain_checked_lem}

@@ -4,7 +4,6 @@ use mathlib.Core.List.{List}
 use Prim.Native.Nat.{ℕ}
 use native.Mathlib.Omega.{arith}
 use lib.ListN.{length}
-use Rattle.cipher.specs.KeySize.{rounds}
 use Rattle.cipher.specs.Tables.{table_rounds}
 use Rattle.cipher.specs.Book.{round_at}
 use Rattle.cipher.proofs.KeySizeLaws.{rounds_le}
