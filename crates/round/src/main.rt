@@ -4,16 +4,15 @@
 
 #![tactic(auto)]
 
-ghost use Rattle.std.specs.Prelude.{◌≡◌, ◌≢◌, ◌≤◌, length, IfErr, OnErr};
+ghost use Rattle.std.specs.Prelude.{◌≡◌, ◌≤◌, length, OnErr};
 ghost use Rattle.std.specs.Io.{ReadsAtMost};
-ghost use Rattle.std.specs.IoError.{error_kind};
 ghost use Rattle.round.specs.Round.{wanted as wanted_bytes};
 
 use cipher::invert::wide;
 use cipher::lengths;
 use cipher::size::{KeySize, SizeFound};
 use std::io;
-use std::io::{ErrorKind, Read};
+use std::io::Read;
 
 mod text; // text.rt: lines and refusals
 mod rounds; // rounds.rt: the rounds, by the tables of one at a time
@@ -43,28 +42,20 @@ fn wanted(first: u8) -> usize
 }
 
 // Reads until the part is full or the input ends, and answers how many bytes it put at the part's start. A read that
-// a signal interrupts is tried again.
+// fails leaves a part of the same length.
 fn read_full(from: &mut impl Read, part: &mut [u8]) -> io::Result<usize>
     ensures ok { ReadsAtMost result part.new }
     ensures err { OnErr result (length part.new ≡ length part.old) }
-    ensures retried { IfErr result (λ e. error_kind e ≢ ErrorKind.Interrupted) }
 {
     let mut done = 0;
-    for _ in 0..u64::MAX {
-        if done >= part.len() {
-            return Ok(done);
+    while done < part.len() {
+        let n = from.read(&mut part[done..])?;
+        if n == 0 {
+            break;
         }
-        match from.read(&mut part[done..]) {
-            Ok(0) => return Ok(done),
-            Ok(n) => done += n,
-            Err(e) => {
-                if e.kind() != ErrorKind::Interrupted {
-                    return Err(e);
-                }
-            }
-        }
+        done += n;
     }
-    Err(io::Error::from(ErrorKind::TimedOut))
+    Ok(done)
 }
 
 // Reads the input and no later byte, and answers how many bytes there were of it. A read that fails leaves a buffer of
@@ -73,7 +64,6 @@ fn read_input(from: &mut impl Read, input: &mut [u8]) -> io::Result<usize>
     requires { length input.old ≡ 30513 }
     ensures ok { ReadsAtMost result input.new }
     ensures err { OnErr result (length input.new ≡ length input.old) }
-    ensures retried { IfErr result (λ e. error_kind e ≢ ErrorKind.Interrupted) }
 {
     let mut head = [0u8; 1];
     if read_full(from, &mut head)? == 0 {
