@@ -3,3 +3,4 @@ pub mod AdmitLaws
 pub mod AnswerLaws
 pub mod SealLaws
 pub mod SessionLaws
+pub mod LentLocal
