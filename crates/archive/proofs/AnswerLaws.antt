@@ -7,35 +7,28 @@ use Prim.Native.Nat.{ℕ, ◌≤◌, ◌<◌}
 use borrow.Author.Tests.{lt-ltb, le-ltb}
 use lib.Dec.{ltb}
 use lib.ListN.{length, drop}
+use Rattle.std.specs.Prelude.{Some, None, Err}
 use Rattle.lists.specs.Refusals.{first}
 use Rattle.lists.proofs.RefusalLaws.{first_hit, first_pass}
 use Rattle.lists.specs.Blocks.{Bytes}
 use Rattle.cipher.specs.KeySize.{rounds, size_of_key}
-use Rattle.cipher.specs.Refusal.{number_of, outcome_of}
+use Rattle.cipher.specs.Refusal.{number_of}
 use Rattle.cipher.specs.Lea.{first_rounds, encipher, decipher}
-use Rattle.cipher.specs.Schedules.{schedule_found, Named, key_rows}
+use Rattle.cipher.specs.Schedules.{schedule_found, Named, key_kind, key_rows}
 use Rattle.cipher.specs.Cmac.{cmac}
 use Rattle.cipher.specs.Coding.{Permutations, set_of, coded, decoded}
 use Rattle.cipher.specs.Chain.{LoneSet, set_tests}
 use Rattle.cipher.specs.Lengths.{set_length}
 use Rattle.cipher.specs.Answers.{block_tests, bad_text, text_tests, room_tests, set_checked}
 use Rattle.cipher.specs.declared.size.KeySize.{KeySize}
-use Rattle.cipher.specs.declared.size.SizeFound.TheVariants.{Unknown}
 use Rattle.cipher.specs.declared.schedules.Schedule.{Schedule}
-use Rattle.cipher.specs.declared.schedules.ScheduleFound.TheVariants.{Numbered, Unnumbered}
-use Rattle.cipher.specs.declared.refusal.Outcome.{Outcome}
-use Rattle.cipher.specs.declared.refusal.Outcome.TheVariants.{Done, Refused}
 use Rattle.cipher.specs.declared.refusal.Refusal.{Refusal}
-use Rattle.cipher.proofs.AnswerLaws.{schedule_refused, key_refused, key_taken, block_refused, block_taken_lem, text_refused, text_taken, number_more}
+use Rattle.cipher.proofs.AnswerLaws.{schedule_refused, key_refused, kind_refused, key_taken, block_refused, block_taken_lem, text_refused, text_taken, number_more}
 use Rattle.cipher.proofs.ChainRefusals.{set_length_refused, set_coding_refused, set_taken}
-use Rattle.cipher.proofs.CheckLaws.{told_refused, set_checked_lem}
+use Rattle.cipher.proofs.CheckLaws.{told_refused}
 use Rattle.archive.proofs.MacLaws.{block_cmac}
 use Rattle.archive.proofs.CheckLaws.{same_coded}
-use Rattle.archive.specs.Archive.{opened_text, ends_padded, padding_tests, unpadded, open_answer, same_block, message_tests, check_answer}
-
--- a set that the check took
-pub set_done : (s : List ℕ) (r : Outcome) → outcome_of r ≡ set_checked s → r ≡ Done → LoneSet s
-set_done s r e d = set_checked_lem s (sym e ∙ ap outcome_of d)
+use Rattle.archive.specs.Archive.{opened_text, ends_padded, padding_tests, unpadded, text_answer, open_answer, same_block, message_tests, check_answer}
 
 -- ---- checking
 
@@ -46,13 +39,18 @@ module _ (s : ℕ) (key set message tag : List ℕ) where
   rest : List (Bool × ℕ)
   rest = block_tests tag ++ message_tests message
 
-  pub check_34 : schedule_found s ≡ Unnumbered → check_answer s key set message tag ≡ (34, 0)
+  pub check_34 : schedule_found s ≡ None → check_answer s key set message tag ≡ (34, 0)
   unfolding check_answer verdict rest
   check_34 e = schedule_refused s key (λ k z. set_tests set ++ rest) (λ q. (q, 0)) verdict e
 
-  pub check_1 : (k : Schedule) → schedule_found s ≡ Numbered k → size_of_key (length key) ≡ Unknown → check_answer s key set message tag ≡ (1, 0)
+  pub check_1 : (k : Schedule) → schedule_found s ≡ Some k → size_of_key (length key) ≡ None → check_answer s key set message tag ≡ (1, 0)
   unfolding check_answer verdict rest
   check_1 k n e = key_refused s key (λ k z. set_tests set ++ rest) (λ q. (q, 0)) verdict k n e
+
+  -- both, as what is told of number and key tells them
+  pub check_kind : (q : Refusal) → Err q ≡ key_kind s key → check_answer s key set message tag ≡ (number_of q, 0)
+  unfolding check_answer verdict rest
+  check_kind q e = kind_refused s key (λ k z. set_tests set ++ rest) (λ q. (q, 0)) verdict q e
 
   module _ (k : Schedule) (z : KeySize) (e : Named s key k z) where
     keyed : check_answer s key set message tag ≡ first (set_tests set ++ rest) (λ q. (q, 0)) (verdict k z)
@@ -66,8 +64,8 @@ module _ (s : ℕ) (key set message tag : List ℕ) where
     check_3 h p = keyed ∙ set_coding_refused rest (λ q. (q, 0)) (verdict k z) set h p
 
     -- both, as the check of the set tells them
-    pub check_set : (r : Outcome) → outcome_of r ≡ set_checked set → (q : Refusal) → r ≡ Refused q → check_answer s key set message tag ≡ (number_of q, 0)
-    check_set r er q d = keyed ∙ told_refused rest (λ q. (q, 0)) (verdict k z) (set_tests set) (number_of q) (number_more q) (sym er ∙ ap outcome_of d)
+    pub check_set : (q : Refusal) → number_of q ≡ set_checked set → check_answer s key set message tag ≡ (number_of q, 0)
+    check_set q e = keyed ∙ told_refused rest (λ q. (q, 0)) (verdict k z) (set_tests set) (number_of q) (number_more q) (sym e)
 
     module _ (v : LoneSet set) where
       set_fine : check_answer s key set message tag ≡ first rest (λ q. (q, 0)) (verdict k z)
@@ -91,12 +89,12 @@ module _ (s : ℕ) (key set message tag : List ℕ) where
         check_done h = tag_fine ∙ first_pass (ltb 1048575 (length message)) 8 [] (λ q. (q, 0)) (verdict k z) (le-ltb 1048575 (length message) h)
 
         -- as the code finds it: the message's tag is coded and compared
-        pub check_verdict : length message ≤ 1048575 → (rows : List (List ℕ)) (mac x : List ℕ) (t : Bool) → rows ≡ key_rows k z key
-            → mac ≡ cmac (first_rounds rows (rounds z)) message → x ≡ coded (set_of set) mac → Bytes tag → same_block x tag ≡ t
+        pub check_verdict : length message ≤ 1048575 → (rows : List (List ℕ)) (size : KeySize) (mac x : List ℕ) (t : Bool) → rows ≡ key_rows k z key → size ≡ z
+            → mac ≡ cmac (first_rounds rows (rounds size)) message → x ≡ coded (set_of set) mac → Bytes tag → same_block x tag ≡ t
             → check_answer s key set message tag ≡ (0, cond t 1 0)
-        check_verdict h rows mac x t er em ex ht es =
+        check_verdict h rows size mac x t er ez em ex ht es =
             let M = cmac (encipher k z key) message in
-            let e : mac ≡ M = em ∙ ap (λ (l : List (List ℕ)). cmac (first_rounds l (rounds z)) message) er in
+            let e : mac ≡ M = em ∙ (λ i. cmac (first_rounds (er i) (rounds (ez i))) message) in
             let w = same_coded (set_of set) v.codings tag M (record { size = l; bytes = ht }) (block_cmac (key_rows k z key) (rounds z) message) in
             check_done h
             ∙ ap (λ (b : Bool). (0, cond b 1 0))
@@ -124,13 +122,17 @@ module _ (s : ℕ) (key set iv sealed out : List ℕ) where
   go : Schedule → KeySize → (ℕ × ℕ) × List ℕ
   go k z = opened (text k z)
 
-  pub open_34 : schedule_found s ≡ Unnumbered → open_answer s key set iv sealed out ≡ ((34, 0), out)
+  pub open_34 : schedule_found s ≡ None → open_answer s key set iv sealed out ≡ ((34, 0), out)
   unfolding open_answer left opened text after set_tests others go
   open_34 e = schedule_refused s key others left go e
 
-  pub open_1 : (k : Schedule) → schedule_found s ≡ Numbered k → size_of_key (length key) ≡ Unknown → open_answer s key set iv sealed out ≡ ((1, 0), out)
+  pub open_1 : (k : Schedule) → schedule_found s ≡ Some k → size_of_key (length key) ≡ None → open_answer s key set iv sealed out ≡ ((1, 0), out)
   unfolding open_answer left opened text after set_tests others go
   open_1 k n e = key_refused s key others left go k n e
+
+  pub open_kind : (q : Refusal) → Err q ≡ key_kind s key → open_answer s key set iv sealed out ≡ ((number_of q, 0), out)
+  unfolding open_answer left opened text after set_tests others go
+  open_kind q e = kind_refused s key others left go q e
 
   module _ (k : Schedule) (z : KeySize) (e : Named s key k z) where
     open-keyed : open_answer s key set iv sealed out ≡ first (set_tests set ++ after (text k z)) left (opened (text k z))
@@ -145,9 +147,9 @@ module _ (s : ℕ) (key set iv sealed out : List ℕ) where
     unfolding left
     open_3 h p = open-keyed ∙ set_coding_refused (after (text k z)) left (opened (text k z)) set h p
 
-    pub open_set : (r : Outcome) → outcome_of r ≡ set_checked set → (q : Refusal) → r ≡ Refused q → open_answer s key set iv sealed out ≡ ((number_of q, 0), out)
+    pub open_set : (q : Refusal) → number_of q ≡ set_checked set → open_answer s key set iv sealed out ≡ ((number_of q, 0), out)
     unfolding left
-    open_set r er q d = open-keyed ∙ told_refused (after (text k z)) left (opened (text k z)) (set_tests set) (number_of q) (number_more q) (sym er ∙ ap outcome_of d)
+    open_set q e = open-keyed ∙ told_refused (after (text k z)) left (opened (text k z)) (set_tests set) (number_of q) (number_more q) (sym e)
 
     module _ (v : LoneSet set) where
       open-fine : open_answer s key set iv sealed out ≡ first (after (text k z)) left (opened (text k z))
@@ -177,6 +179,11 @@ module _ (s : ℕ) (key set iv sealed out : List ℕ) where
           module _ (w : length sealed ≤ length out) where
             open-roomy : open_answer s key set iv sealed out ≡ first (padding_tests (text k z)) left (opened (text k z))
             open-roomy = open-read ∙ first_pass (ltb (length out) (length sealed)) 9 (padding_tests (text k z)) left (opened (text k z)) (le-ltb (length out) (length sealed) w)
+
+            -- both answers, as what is told of the text tells them
+            pub open_told : open_answer s key set iv sealed out ≡ text_answer (opened_text (decipher k z key) (set_of set) iv sealed) out
+            unfolding text left opened text_answer
+            open_told = open-roomy
 
             pub open_11 : ends_padded (opened_text (decipher k z key) (set_of set) iv sealed) ≡ false → open_answer s key set iv sealed out ≡ ((11, 0), out)
             unfolding text left

@@ -1,16 +1,19 @@
 -- Comparing a tag: two blocks are the same or not, and a tag decoded is the CMAC exactly if the CMAC coded is the tag.
 use mathlib.Core.Path.{◌≡◌, refl, sym, ap, ap₂, ◌∙◌}
 use mathlib.Core.Bool.{Bool, true, false, ◌&&◌}
-use mathlib.Core.List.{List}
-use Prim.Native.Nat.{ℕ}
+use mathlib.Core.List.{List, [], ◌∷◌}
+use Prim.Native.Nat.{ℕ, zero, suc}
 use native.Mathlib.Omega.{arith}
 use borrow.Author.Tests.{eq-eqb, ne_eqb, eqb-true, eqb-false}
 use lib.Bits.{bit_or, bit_xor, or_add_and, and_le_l, and_le_r, xor_self}
 use lib.Dec.{eqb}
 use lib.ListN.{length, get_or}
 use lib.Seq.{ext_get_or}
+use Rattle.std.specs.List.{fold, zip}
+use Rattle.std.proofs.Math.Bool.{and_assoc, and-true}
 use Rattle.lists.specs.Blocks.{Block}
 use Rattle.lists.proofs.XorLaws.{xor_cancel}
+use Rattle.lists.specs.Every.{every}
 use Rattle.lists.proofs.EveryLaws.{every_all, all_every}
 use Rattle.cipher.specs.Coding.{Set, Permutations, coded, decoded}
 use Rattle.cipher.proofs.CodingLaws.{block_coded, block_decoded, coded_decoded, decoded_coded}
@@ -45,6 +48,36 @@ fold_more d x y = go (eqb d 0) refl (eqb x y) refl
     go true p false q = ne_eqb _ 0 (λ e. eqb-false x y q (alike (none e).1))
     go false p true q = ne_eqb _ 0 (λ e. eqb-false d 0 p (none e).0)
     go false p false q = ne_eqb _ 0 (λ e. eqb-false d 0 p (none e).0)
+
+-- and so over all bytes of two blocks, as `check` folds them
+abbrev pub differ : ℕ → ℕ × ℕ → ℕ
+differ d p = bit_or d (bit_xor p.0 p.1)
+
+every_front : (n : ℕ) (p : ℕ → Bool) → every (suc n) p ≡ p 0 && every n (λ k. p (suc k))
+unfolding every
+every_front zero p = sym (and-true (p 0))
+every_front (suc n) p =
+    ap (λ (b : Bool). b && p (suc n)) (every_front n p) ∙ and_assoc (p 0) (every n (λ k. p (suc k))) (p (suc n))
+
+fold_all : (a b : List ℕ) (d : ℕ) → length a ≡ length b
+    → eqb (fold differ d (zip a b)) 0 ≡ eqb d 0 && every (length a) (λ k. eqb (get_or a k 0) (get_or b k 0))
+unfolding every
+fold_all [] [] d l = sym (and-true (eqb d 0))
+fold_all [] (y ∷ b) d l = absurd (omega arith)
+fold_all (x ∷ a) [] d l = absurd (omega arith)
+fold_all (x ∷ a) (y ∷ b) d l =
+    fold_all a b (bit_or d (bit_xor x y)) (omega arith)
+    ∙ ap (λ (t : Bool). t && every (length a) (λ k. eqb (get_or a k 0) (get_or b k 0))) (fold_more d x y)
+    ∙ and_assoc (eqb d 0) (eqb x y) (every (length a) (λ k. eqb (get_or a k 0) (get_or b k 0)))
+    ∙ ap (λ (t : Bool). eqb d 0 && t) (sym (every_front (length a) (λ k. eqb (get_or (x ∷ a) k 0) (get_or (y ∷ b) k 0))))
+
+pub same_folded : (a b : List ℕ) (r : ℕ) → length a ≡ 16 → length b ≡ 16 → r ≡ fold differ 0 (zip a b)
+    → eqb r 0 ≡ same_block a b
+unfolding same_block
+same_folded a b r ha hb e =
+    ap (λ (n : ℕ). eqb n 0) e
+    ∙ fold_all a b 0 (ha ∙ sym hb)
+    ∙ ap (λ (n : ℕ). every n (λ k. eqb (get_or a k 0) (get_or b k 0))) ha
 
 pub same_coded : (S : Set) → Permutations S → (t m : List ℕ) → Block t → Block m → same_block (coded S m) t ≡ same_block (decoded S t) m
 same_coded S p t m ht hm = go (same_block (coded S m) t) refl (same_block (decoded S t) m) refl

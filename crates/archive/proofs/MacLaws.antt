@@ -6,11 +6,11 @@ use Prim.Native.Nat.{ℕ, zero, suc, ◌+◌, ◌-◌, ◌*◌, ◌≤◌, ◌<�
 use native.Mathlib.Omega.{arith}
 use borrow.Author.Tests.{eq-eqb, ne_eqb}
 use lib.Dec.{eqb, lit<}
-use lib.ListN.{get_or, length, set, drop, replicate, length-drop}
+use lib.ListN.{length, set, drop, replicate, length-drop}
 use lib.Seq.{append_snoc}
-use Rattle.lists.specs.Tabulation.{tab}
+use Rattle.std.proofs.lemmas.List.{drop-replicate}
 use Rattle.lists.specs.Blocks.{Bytes, Block, zeros, xor_block, cut}
-use Rattle.lists.proofs.TabulationLaws.{tab_is, get_d_replicate}
+use Rattle.lists.proofs.TabulationLaws.{get_d_replicate}
 use Rattle.lists.proofs.BlockLaws.{block_xor, block_zeros, bytes_append, bytes_drop}
 use Rattle.lists.proofs.PartLaws.{fill_more}
 use Rattle.words.specs.Word.{xor_words, words4, bytes}
@@ -23,27 +23,18 @@ use Rattle.archive.specs.Mac.{filled_block, last_under}
 
 -- ---- the last block
 
-copied : (p : List ℕ) → tab (length p) (λ i. get_or p i 0) ≡ p
-copied p = tab_is (length p) (λ i. get_or p i 0) p refl (λ i h. refl)
-
 -- a part copied into a zero block, and hex 80 after it
-pub filled_part : (p b : List ℕ) (k : ℕ) → b ≡ tab k (λ i. get_or p i 0) ++ replicate (16 - k) 0 → k ≡ length p → length p < 16
-    → set b (length p) 0x80 ≡ filled_block p
+pub filled_part : (p q : List ℕ) → q ≡ p → length p < 16 → set (q ++ drop (length p - 0) (replicate 16 0)) (length p) 0x80 ≡ filled_block p
 unfolding filled_block
-filled_part p b k e h l =
-    let q : 15 - length p ≡ 16 - (length p + 1) = omega arith in
-    let w : b ≡ p ++ replicate (16 - length p) 0 = e ∙ rw (h, copied p) in
-    rw (ne_eqb (length p) 16 (λ z. omega arith), q)
-    (ap (λ (x : List ℕ). set x (length p) 0x80) w
-    ∙ fill_more 16 (length p) 0 0x80 p refl l
-    ∙ append_snoc p 0x80 (replicate (16 - (length p + 1)) 0))
+filled_part p q e l =
+    let z : length p - 0 ≡ length p = omega arith in
+    let r : 15 - length p ≡ 16 - (length p + 1) = omega arith in
+    rw (ne_eqb (length p) 16 (λ z. omega arith), r, e, z, drop-replicate)
+    (fill_more 16 (length p) 0 0x80 p refl l ∙ append_snoc p 0x80 (replicate (16 - (length p + 1)) 0))
 
-pub filled_whole : (p b : List ℕ) (k : ℕ) → b ≡ tab k (λ i. get_or p i 0) ++ replicate (16 - k) 0 → k ≡ length p → length p ≡ 16 → b ≡ filled_block p
+pub filled_whole : (p q : List ℕ) → q ≡ p → length p ≡ 16 → q ++ drop (length p - 0) (replicate 16 0) ≡ filled_block p
 unfolding filled_block
-filled_whole p b k e h l =
-    let z : 16 - k ≡ 0 = omega arith in
-    rw (eq-eqb (length p) 16 l)
-    (e ∙ rw (z, append-nil, h) (copied p))
+filled_whole p q e l = rw (eq-eqb (length p) 16 l, e, l, append-nil)
 
 bytes_filled : (p : List ℕ) → Bytes p → Bytes (filled_block p)
 unfolding filled_block

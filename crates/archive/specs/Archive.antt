@@ -1,6 +1,6 @@
 -- The archive (document 01, "Pad, driver, archive" and "Refusals from the input"), which has the key and set r: what opening
 -- and checking answer.
-use Rattle.std.specs.Prelude.{Bool, cond, not, ◌&&◌, ℕ, ◌+◌, ◌-◌, eqb, leb, ltb, length, get_or, take, drop}
+use Rattle.std.specs.Prelude.{Bool, cond, not, ◌&&◌, ℕ, ◌+◌, ◌-◌, eqb, leb, ltb, length, get_or, take, drop, Result, Ok, Err}
 use mathlib.Core.List.{List, [], ◌∷◌, ◌++◌, map, flatten}
 use Rattle.cipher.specs.Lengths.{longest_message}
 use Rattle.lists.specs.Blocks.{blocks, block_length}
@@ -13,8 +13,9 @@ use Rattle.cipher.specs.Coding.{Set, set_of, decoded}
 use Rattle.cipher.specs.Chain.{set_tests}
 use Rattle.cipher.specs.Refusal.{number_of}
 use Rattle.cipher.specs.Answers.{key_tests, schedule_of, key_size, block_tests, text_tests, room_tests}
-use Rattle.archive.specs.declared.check.Checked.{Checked}
-use Rattle.archive.specs.declared.check.Checked.TheVariants.{Valid, Invalid, Refused}
+use Rattle.cipher.specs.declared.refusal.Refusal.{Refusal}
+use Rattle.archive.specs.declared.check.Verdict.{Verdict}
+use Rattle.archive.specs.declared.check.Verdict.TheVariants.{Valid, Invalid}
 
 -- ---- opening
 
@@ -36,6 +37,11 @@ padding_tests t = (not (ends_padded t), 11) ∷ []
 -- the padding taken off
 unfoldable pub unpadded : List ℕ → List ℕ
 unpadded t = take (length t - last_byte t) t
+
+-- what is told of a text t that is opened into a buffer: 11, or the length of the message, and what the buffer then holds
+unfoldable pub text_answer : List ℕ → List ℕ → (ℕ × ℕ) × List ℕ
+text_answer t out =
+    first (padding_tests t) (λ q. ((q, 0), out)) ((0, length (unpadded t)), unpadded t ++ drop (length (unpadded t)) out)
 
 -- refusals 34 of the schedule s, 1 of the key, 2 and 3 of the set, 7 of the IV, 8 of the sealed text, and 9 of a buffer shorter than it
 abbrev pub open_tests : ℕ → List ℕ → List ℕ → List ℕ → List ℕ → List ℕ → List (Bool × ℕ)
@@ -60,10 +66,10 @@ unfoldable pub same_block : List ℕ → List ℕ → Bool
 same_block a b = every block_length (λ k. eqb (get_or a k 0) (get_or b k 0))
 
 -- an answer as a number and a verdict: 1 is Valid, 0 Invalid
-abbrev pub checked_told : Checked → ℕ × ℕ
-checked_told Valid = (0, 1)
-checked_told Invalid = (0, 0)
-checked_told (Refused q) = (number_of q, 0)
+abbrev pub checked_told : Result Verdict Refusal → ℕ × ℕ
+checked_told (Ok Valid) = (0, 1)
+checked_told (Ok Invalid) = (0, 0)
+checked_told (Err q) = (number_of q, 0)
 
 -- refusal 8: a message over 1,048,575 bytes
 abbrev pub message_tests : List ℕ → List (Bool × ℕ)

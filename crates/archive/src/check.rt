@@ -7,16 +7,14 @@ use crate::mac::cmac;
 use cipher::block::code_block;
 use cipher::chain::check_set;
 use cipher::lengths;
-use cipher::refusal::{Outcome, Refusal};
-use cipher::schedules::{Schedule, ScheduleFound, key_rows};
-use cipher::size::{KeySize, SizeFound};
+use cipher::refusal::Refusal;
+use cipher::schedules::KeyKind;
 
-// The verdict on a tag, or why there is none.
-#[derive(Clone, Copy)]
-pub enum Checked {
+// The verdict on a tag.
+#[derive(Clone, Copy, Debug, PartialEq, Eq)]
+pub enum Verdict {
     Valid,
     Invalid,
-    Refused(Refusal),
 }
 
 // Whether a block is what a slice of 16 bytes holds. All bytes are looked at, and what differs is
@@ -25,36 +23,33 @@ fn same(a: [u8; 16], b: &[u8]) -> bool
     requires { length b.now ≡ block_length }
     ensures { result ≡ R.same_block a b.now }
 {
-    let mut differs = 0u8;
-    for k in 0..lengths::BLOCK {
-        differs = differs | (a[k] ^ b[k]);
-    }
+    let differs = a.iter().zip(b.iter()).fold(0, |d, (x, y)| d | (*x ^ *y));
     differs == 0
 }
 
-// Whether a tag, coded by set r, is that of a message under a key. The message's own tag is coded
-// and compared.
-pub fn check(schedule: u8, key: &[u8], set: &[u8], message: &[u8], tag: &[u8]) -> Checked
+// Whether a tag, coded by set r, is that of a message under a key, or why there is no verdict. The
+// message's own tag is coded and compared.
+pub fn check(
+    schedule: u8,
+    key: &[u8],
+    set: &[u8],
+    message: &[u8],
+    tag: &[u8],
+) -> Result<Verdict, Refusal>
     ensures { R.checked_told result ≡ R.check_answer schedule key.now set.now message.now tag.now }
 {
-    let ScheduleFound::Numbered(named) = Schedule::of_number(schedule) else {
-        return Checked::Refused(Refusal::ScheduleNumber);
-    };
-    let SizeFound::Found(size) = KeySize::of_key_len(key.len()) else {
-        return Checked::Refused(Refusal::KeyLength);
-    };
-    if let Outcome::Refused(why) = check_set(set) {
-        return Checked::Refused(why);
-    }
+    let kind = KeyKind::of(schedule, key)?;
+    check_set(set)?;
     if tag.len() != lengths::BLOCK {
-        return Checked::Refused(Refusal::BlockLength);
+        return Err(Refusal::BlockLength);
     }
     if lengths::LONGEST_MESSAGE < message.len() {
-        return Checked::Refused(Refusal::MessageLength);
+        return Err(Refusal::MessageLength);
     }
-    let mac = cmac(key_rows(named, size, key), size, message);
+    let mac = cmac(&kind.round_keys(key), message);
     if same(code_block(set, mac), tag) {
-        return Checked::Valid;
+        Ok(Verdict::Valid)
+    } else {
+        Ok(Verdict::Invalid)
     }
-    Checked::Invalid
 }

@@ -9,18 +9,14 @@ ghost use Rattle.archive.specs.Mac.{filled_block, last_under};
 
 use cipher::cmac::{SubkeyPair, cbc_mac, subkeys};
 use cipher::lengths;
-use cipher::rows::encipher;
-use cipher::size::KeySize;
+use cipher::rows::RoundKeys;
 use words::word::{bytes, words, xor};
 
 // How many blocks of a message of n bytes come before its last one.
 fn blocks_before(n: usize) -> usize
     ensures { result ≡ C.blocks_before n }
 {
-    if n == 0 {
-        return 0;
-    }
-    (n - 1) / lengths::BLOCK
+    n.saturating_sub(1) / lengths::BLOCK
 }
 
 // What is left of a message as a block: hex 80 and zeros come after it where it is not complete.
@@ -30,9 +26,7 @@ fn filled(part: &[u8]) -> [u8; 16]
 {
     let n = part.len();
     let mut b = [0u8; 16];
-    for k in 0..n {
-        b[k] = part[k];
-    }
+    b[0..n].copy_from_slice(part);
     if n < lengths::BLOCK {
         b[n] = 0x80;
     }
@@ -46,20 +40,18 @@ fn last_words(part: &[u8], keys: SubkeyPair) -> [u32; 4]
 {
     let b = filled(part);
     if part.len() == lengths::BLOCK {
-        let k1 = keys.k1;
-        return xor(words(&b), words(&k1));
+        return xor(words(&b), words(&keys.k1));
     }
-    let k2 = keys.k2;
-    xor(words(&b), words(&k2))
+    xor(words(&b), words(&keys.k2))
 }
 
-// The CMAC of a message under the rows of a schedule.
-pub fn cmac(rows: [[u32; 6]; 32], size: KeySize, message: &[u8]) -> [u8; 16]
-    ensures { result ≡ C.cmac (first_rounds rows (S.rounds size)) message.now }
+// The CMAC of a message under round keys.
+pub fn cmac(keys: &RoundKeys, message: &[u8]) -> [u8; 16]
+    ensures { result ≡ C.cmac (first_rounds keys.now.rows (S.rounds keys.now.size)) message.now }
 {
     let n = blocks_before(message.len());
     let at = lengths::BLOCK * n;
-    let x = cbc_mac(rows, size, message, n);
-    let last = last_words(&message[at..], subkeys(rows, size));
-    bytes(encipher(rows, size, xor(x, last)))
+    let x = cbc_mac(keys, message, n);
+    let last = last_words(&message[at..], subkeys(keys));
+    bytes(keys.encipher(xor(x, last)))
 }

@@ -1,32 +1,32 @@
 // Opening a sealed file (document 01, "Pad, driver, archive").
-ghost use Rattle.std.specs.Prelude.{◌≡◌, ◌++◌, ◌+◌, ◌≤◌, length, take, drop};
-ghost use Rattle.cipher.specs.Lengths.{images_length};
+ghost use Rattle.std.specs.Prelude.{◌≡◌, ◌++◌, ◌+◌, ◌/◌, ◌%◌, ◌<◌, ◌≤◌, length, take, drop};
+ghost use Rattle.cipher.specs.Lengths.{images_length, longest_code};
 ghost use Rattle.lists.specs.Blocks.{block_length};
+ghost use Rattle.lists.specs.Tabulation.{chunks};
+ghost use Rattle.cipher.specs.KeySize as S;
 ghost use Rattle.cipher.specs.Refusal.{written_of};
 ghost use Rattle.cipher.specs.Coding.{inverted};
-ghost use Rattle.cipher.specs.Images.{images_of};
+ghost use Rattle.cipher.specs.Images.{images_of, imaged};
 ghost use Rattle.cipher.specs.Chain.{LoneSet};
+ghost use Rattle.archive.specs.Blocks.{opened_block};
 ghost use Rattle.archive.specs.Archive as R;
 
-use crate::blocks::{open_block, open_blocks};
+use crate::blocks::Sealed;
 use crate::padding::padding;
 use cipher::block::bad_text;
 use cipher::chain::check_set;
 use cipher::image::images;
 use cipher::invert::invert;
 use cipher::lengths;
-use cipher::refusal::{Outcome, Refusal, Written};
-use cipher::schedules::{Schedule, ScheduleFound, key_rows};
-use cipher::size::{KeySize, SizeFound};
+use cipher::refusal::Refusal;
+use cipher::schedules::KeyKind;
 
 // The first n bytes of a block over those of out from a place on.
 fn put_part(out: &mut [u8], at: usize, b: [u8; 16], n: usize)
     requires { (n ≤ block_length) × (at + n ≤ length out.old) }
     ensures { out.new ≡ take at out.old ++ take n b ++ drop (at + n) out.old }
 {
-    for k in 0..n {
-        out[at + k] = b[k];
-    }
+    out[at..at + n].copy_from_slice(&b[0..n]);
 }
 
 // What each byte of a block decodes to in its place, by a set.
@@ -39,40 +39,52 @@ fn decodings(set: &[u8], table: &mut [u8])
     images(&codes, table);
 }
 
-// A sealed file opened under a key, with its set r and its IV: the message into the front of out.
-// The padding is judged before anything is written.
-pub fn open(schedule: u8, key: &[u8], set: &[u8], iv: &[u8], file: &[u8], out: &mut [u8]) -> Written
+// A sealed text opened into the front of out, its padding taken off. The padding is judged before
+// anything is written.
+fn open_text(sealed: &Sealed, out: &mut [u8]) -> Result<usize, Refusal>
+    requires { (0 < length sealed.now.text.now) × (length sealed.now.text.now ≤ longest_code) × (length sealed.now.text.now % block_length ≡ 0) × (length sealed.now.text.now ≤ length out.old) }
+    ensures { let t = chunks (length sealed.now.text.now / block_length) (opened_block sealed.now.keys.now.rows (S.rounds sealed.now.keys.now.size) (imaged sealed.now.table.now) sealed.now.iv.now sealed.now.text.now) in (written_of result, out.new) ≡ R.text_answer t out.old }
+{
+    let n = sealed.text.len();
+    let k = n / lengths::BLOCK - 1;
+    let last = sealed.open_block(k);
+    let v = padding(last).ok_or(Refusal::BadPadding)?;
+    sealed.open_blocks(k, out);
+    put_part(out, lengths::BLOCK * k, last, lengths::BLOCK - v);
+    Ok(n - v)
+}
+
+// A sealed file opened under a key, with its set r and its IV: the message into the front of out. The
+// parameters are those of the C interface.
+pub fn open(
+    schedule: u8,
+    key: &[u8],
+    set: &[u8],
+    iv: &[u8],
+    file: &[u8],
+    out: &mut [u8],
+) -> Result<usize, Refusal>
     ensures { (written_of result, out.new) ≡ R.open_answer schedule key.now set.now iv.now file.now out.old }
 {
-    let ScheduleFound::Numbered(named) = Schedule::of_number(schedule) else {
-        return Written::Refused(Refusal::ScheduleNumber);
-    };
-    let SizeFound::Found(size) = KeySize::of_key_len(key.len()) else {
-        return Written::Refused(Refusal::KeyLength);
-    };
-    if let Outcome::Refused(why) = check_set(set) {
-        return Written::Refused(why);
-    }
+    let kind = KeyKind::of(schedule, key)?;
+    check_set(set)?;
     if iv.len() != lengths::BLOCK {
-        return Written::Refused(Refusal::BlockLength);
+        return Err(Refusal::BlockLength);
     }
-    let n = file.len();
-    if bad_text(n) {
-        return Written::Refused(Refusal::MessageLength);
+    if bad_text(file.len()) {
+        return Err(Refusal::MessageLength);
     }
-    if out.len() < n {
-        return Written::Refused(Refusal::ShortBuffer);
+    if out.len() < file.len() {
+        return Err(Refusal::ShortBuffer);
     }
-    let rows = key_rows(named, size, key);
+    let keys = kind.round_keys(key);
     let mut table = [0u8; lengths::IMAGES];
     decodings(set, &mut table);
-    let k = n / lengths::BLOCK - 1;
-    let last = open_block(rows, size, &table, iv, file, k);
-    let v = padding(last);
-    if v == 0 {
-        return Written::Refused(Refusal::BadPadding);
-    }
-    open_blocks(rows, size, &table, iv, file, k, out);
-    put_part(out, lengths::BLOCK * k, last, lengths::BLOCK - v);
-    Written::Bytes(n - v)
+    let sealed = Sealed {
+        keys: &keys,
+        table: &table,
+        iv,
+        text: file,
+    };
+    open_text(&sealed, out)
 }

@@ -15,24 +15,16 @@ fn ends_with(b: [u8; 16], v: usize) -> bool
     requires { v ≤ block_length }
     ensures { result ≡ every v (λ k. eqb (get_or b (block_length - v + k) 0) v) }
 {
-    for k in 0..v {
-        if wide(b[lengths::BLOCK - v + k]) != v {
-            return false;
-        }
-    }
-    true
+    b[lengths::BLOCK - v..].iter().all(|x| wide(*x) == v)
 }
 
-// How many bytes of padding the last block of a text ends with, or 0 where its end is none.
-pub fn padding(b: [u8; 16]) -> usize
-    ensures { result ≡ cond (ends_padded b) (last_byte b) 0 }
+// How many bytes of padding the last block of a text ends with, or none where its end is no padding.
+pub fn padding(b: [u8; 16]) -> Option<usize>
+    ensures { result ≡ cond (ends_padded b) (Some (last_byte b)) None }
 {
     let v = wide(b[LAST]);
-    if v == 0 {
-        return 0;
+    if v == 0 || lengths::BLOCK < v {
+        return None;
     }
-    if v > lengths::BLOCK {
-        return 0;
-    }
-    if ends_with(b, v) { v } else { 0 }
+    if ends_with(b, v) { Some(v) } else { None }
 }

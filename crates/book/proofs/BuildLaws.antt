@@ -1,12 +1,11 @@
 -- The tables that the builder makes from inverted codings are the tables of the book.
 use mathlib.Core.Path.{◌≡◌, refl, sym, ap, ap₂, ◌∙◌}
 use mathlib.Core.List.{List, ◌++◌}
-use Prim.Native.Nat.{ℕ, zero, suc, ◌+◌, ◌-◌, ◌*◌, ◌/◌, ◌%◌, ◌≤◌, ◌<◌}
-use native.Mathlib.Decide.{dec_lt}
+use Prim.Native.Nat.{ℕ, zero, suc, ◌+◌, ◌*◌, ◌/◌, ◌%◌, ◌<◌}
 use native.Mathlib.Omega.{arith}
 use lib.Bits.{bit_xor, xor_lt, xor_comm}
 use lib.Dec.{lit<}
-use lib.ListN.{length, get_or, drop, length-drop, get_or-eq_default}
+use lib.ListN.{length, get_or, drop}
 use lib.Seq.{get_or-drop}
 use Rattle.lists.specs.Tabulation.{tab, chunks, tables}
 use Rattle.lists.specs.Blocks.{Below}
@@ -15,19 +14,16 @@ use Rattle.lists.proofs.TabulationLaws.{length_tab, get_or_tab, tab_ext}
 use Rattle.lists.proofs.ChunkLaws.{length_chunks, chunks_ext}
 use Rattle.lists.proofs.HalfByteLaws.{half_lt}
 use Rattle.lists.proofs.XorLaws.{xor_assoc}
-use Rattle.cipher.specs.Coding.{FirstPermutations, coding_at, set_of, decode, inverted, block_half}
+use Rattle.cipher.specs.Coding.{coding_at, set_of, inverted, block_half}
 use Rattle.cipher.specs.Tables.{add_entry, add_table, turned, upper, lower, turn_table, fold_table}
-use Rattle.cipher.specs.KeySize.{rounds}
 use Rattle.cipher.specs.Lengths.{add_length, turn_length, fold_length}
-use Rattle.cipher.specs.Chain.{ChainBy, round_bytes, mask_into, mask_out_of, round_codings}
-use Rattle.cipher.specs.declared.size.KeySize.{KeySize}
+use Rattle.cipher.specs.Chain.{mask_into, mask_out_of}
 use Rattle.cipher.specs.Book.{two_kinds, round_part, group_part}
-use Rattle.cipher.proofs.Permutation.{decode_lt}
-use Rattle.cipher.proofs.InverseLaws.{length_inverted, inverted_at}
 use Rattle.cipher.proofs.TableLaws.{upper_lt, lower_lt, add_rows, turn_rows, fold_rows}
 use Rattle.table_maker.specs.Rows.{row_by, table_by}
-use Rattle.table_maker.specs.Made.{RoundBytes, RoundReady, codings_of, keyed_by, summands, sum_entries, made_add, upper_part, lower_part, upper_parts, lower_parts, turned_rows, made_turn, made_fold}
-use Rattle.table_maker.proofs.MadeLaws.{length_add, length_turn}
+use Rattle.table_maker.specs.Made.{RoundBytes, RoundReady, codings_of, keyed_by, summands, sum_entries, made_add, upper_part, lower_part, upper_parts, lower_parts, turned_rows, turned_by, itself, made_turn, made_fold}
+use Rattle.table_maker.proofs.InvertedLaws.{inverse_at, inverse_below}
+use Rattle.table_maker.proofs.MadeLaws.{length_add, length_turned}
 
 -- ---- tables by their entries
 
@@ -45,23 +41,6 @@ pub both_tabled : (op : ℕ → ℕ → ℕ) (E : List ℕ) (n : ℕ) (a b : ℕ
     → ((x q : ℕ) → x < n → q < 16 → get_or E (op (a x) (b q)) 0 ≡ g x q) → table_by op E (tab n a) (tab 16 b) ≡ chunks n (λ x. tab 16 (g x))
 both_tabled op E n a b g h =
     table_is op E n a (tab 16 b) g (λ x q hx hq. ap (λ (y : ℕ). get_or E (op (a x) y) 0) (get_or_tab 16 b q hq) ∙ h x q hx hq)
-
--- ---- inverted codings
-
-module _ (n : ℕ) (s : List ℕ) where
-  -- the value at o, which is place v of coding k
-  pub inverse_at : (o k v : ℕ) → k < n → v < 16 → o ≡ 16 * k + v → decode (coding_at s k) v ≡ get_or (inverted n s) o 0
-  inverse_at o k v hk hv e = sym (ap (λ (m : ℕ). get_or (inverted n s) m 0) e ∙ inverted_at n s k v hk hv)
-
-  pub inverse_below : FirstPermutations n s → Below 16 (inverted n s)
-  inverse_below h o = go (dec_lt o (n * 16))
-    where
-      go : Dec (o < n * 16) → get_or (inverted n s) o 0 < 16
-      go (yes d) =
-          let e = inverse_at o (o / 16) (o % 16) (omega arith) (omega arith) (omega arith) in
-          let b = decode_lt (coding_at s (o / 16)) (h (o / 16) (omega arith)) (o % 16) (omega arith) in
-          omega arith
-      go (no d) = rw (get_or-eq_default (inverted n s) 0 {n = o} (rw (length_inverted n s) (omega arith))) (lit< tt)
 
 -- ---- a round
 
@@ -131,7 +110,7 @@ module _ (B A R K : List ℕ) (ready : RoundReady B A R) where
       (λ v hv. ap (λ (y : ℕ). add_entry (coding_at R y) (mask_out_of R i j) v) e))
 
   turn_is : (p : ℕ) → p < 24 → made_turn (inverted 24 R) A p ≡ tab turn_length (turn_table (codings_of B A R) (p / 8) (p % 8))
-  unfolding made_turn turn_table codings_of
+  unfolding turned_by turn_table codings_of
   turn_is p hp = go (p / 8) (p % 8) (omega arith) (omega arith) (omega arith)
     where
       go : (i j : ℕ) → i < 3 → j < 8 → 8 * i + j ≡ p
@@ -175,61 +154,13 @@ module _ (S U F K : List ℕ) where
   unfolding group_part tables
   group_is = chunks_ext 32 (made_fold (inverted 32 S) (inverted 32 U) F K) (λ p. tab fold_length (fold_table (set_of S) (set_of U) (set_of F) K (p / 8) (p % 8))) fold_is
 
--- ---- a valid chain gives what its rounds are made from
-
-module _ {from to : ℕ} (z : KeySize) (ch : List ℕ) (h : ChainBy from to z ch) where
-  pub sets_permute : (l : ℕ) → l ≤ rounds z → FirstPermutations 32 (drop (512 * suc l) ch)
-  sets_permute l hl k hk =
-      let e : 8 * (k / 8) + k % 8 ≡ k = omega arith in
-      let p = h.codings.sets l hl (k / 8) (k % 8) (omega arith) (omega arith) in
-      rw e at p
-
-  pub message_permutes : FirstPermutations 32 ch
-  message_permutes k hk =
-      let e : 8 * (k / 8) + k % 8 ≡ k = omega arith in
-      let p = h.codings.message (k / 8) (k % 8) (omega arith) (omega arith) in
-      rw e at p
-
-  middles_permute : (l : ℕ) → l < rounds z → FirstPermutations 24 (round_bytes (rounds z) ch l)
-  middles_permute l hl k hk =
-      let e : 8 * (k / 8) + k % 8 ≡ k = omega arith in
-      let p = h.codings.middles l (k / 8) (k % 8) hl (omega arith) (omega arith) in
-      rw e at p
-
-  masks_are : (l : ℕ) → l < rounds z → (k : ℕ) → 384 ≤ k → k < 408 → get_or (round_bytes (rounds z) ch l) k 0 < 2
-  masks_are l hl k hk hk' =
-      let e : 384 + (k - 384) ≡ k = omega arith in
-      let p = h.masks l (k - 384) hl (omega arith) in
-      rw e at p
-
-  module _ (l : ℕ) (B A R : List ℕ) (b a n : ℕ) (hl : l < rounds z) (eB : B ≡ drop b ch) (eA : A ≡ drop a ch) (eR : R ≡ drop n ch)
-      (eb : b ≡ 512 * suc l) (ea : a ≡ 512 * suc (suc l)) (en : n ≡ 512 * (rounds z + 2) + 408 * l) where
-    pub round_ready : RoundReady B A R
-    round_ready = record {
-      before = rw (eB, eb) (sets_permute l (omega arith));
-      after = rw (eA, ea) (sets_permute (suc l) hl);
-      middles = rw (eR, en) (middles_permute l hl);
-      masks = rw (eR, en) (masks_are l hl);
-      room_before = rw (eB, length-drop) (omega (arith, h.size));
-      room_after = rw (eA, length-drop) (omega (arith, h.size));
-      room_middles = rw (eR, length-drop) (omega (arith, h.size));
-    }
-
-    pub codings_at : codings_of B A R ≡ round_codings (rounds z) ch l
-    unfolding codings_of round_codings
-    codings_at = rw (eB, eA, eR, eb, ea, en)
-
 -- ---- parts that are put together
-
--- an array that holds codings inverted
-pub inverse_array : (n : ℕ) (s t : List ℕ) → t ≡ inverted n s → FirstPermutations n s → (length t ≡ n * 16) × Below 16 t
-inverse_array n s t e h = (ap length e ∙ length_inverted n s, rw e (inverse_below n s h))
 
 pub adds_length_lem : (x s R K : List ℕ) → x ≡ chunks 24 (made_add s R K) → length x ≡ 12288
 adds_length_lem x s R K e = ap length e ∙ length_chunks (made_add s R K) 512 (length_add s R K) 24
 
 pub turns_length : (x s S : List ℕ) → x ≡ chunks 24 (made_turn s S) → length x ≡ 6144
-turns_length x s S e = ap length e ∙ length_chunks (made_turn s S) 256 (length_turn s S) 24
+turns_length x s S e = ap length e ∙ length_chunks (made_turn s S) 256 (length_turned upper lower itself s S) 24
 
 pub round_joined : (B A R K s m x y : List ℕ) → RoundReady B A R → s ≡ inverted 32 B → m ≡ inverted 24 R → x ≡ chunks 24 (made_add s R K)
     → y ≡ chunks 24 (made_turn m A) → x ++ y ≡ round_part (codings_of B A R) K

@@ -20,7 +20,7 @@ use Rattle.cipher.specs.Book.{start_part, group_part, group_key, book_group, boo
 use Rattle.cipher.proofs.BookLaw.{group_size, round_size}
 use Rattle.cipher.specs.declared.size.KeySize.{KeySize}
 use Rattle.table_maker.specs.Made.{three_keys}
-use Rattle.book.proofs.BuildLaws.{sets_permute}
+use Rattle.table_maker.proofs.ChainLaws.{sets_permute}
 
 -- set l of a valid chain, from its place on
 pub set_in : {from to : ℕ} (z : KeySize) (ch S : List ℕ) (l : ℕ) → ChainBy from to z ch → l ≤ rounds z → S ≡ drop (512 * (l + 1)) ch → FirstPermutations 32 S × (512 ≤ length S)

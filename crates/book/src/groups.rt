@@ -1,4 +1,5 @@
-// The start of a book and its three groups of fold tables (document 01, "Book").
+// The start of a book and its three groups of fold tables (document 01, "Book"). That a set has
+// permutations is asked of two functions, and is no type: their caller cuts it out of a valid chain.
 ghost use Rattle.std.specs.Prelude.{◌≡◌, ◌+◌, ◌*◌, ◌<◌, ◌≤◌, length};
 ghost use Rattle.cipher.specs.Lengths.{set_length, start_length, group_length};
 ghost use Rattle.lists.specs.Tabulation.{chunks};
@@ -8,9 +9,10 @@ ghost use Rattle.cipher.specs.Book.{group_part};
 ghost use Rattle.table_maker.specs.Made.{three_keys};
 
 use cipher::cmac::SubkeyPair;
-use cipher::invert::invert;
 use cipher::lengths;
+use parts::in_parts;
 use table_maker::folds::fold_tables;
+use table_maker::inverted::InvertedSet;
 
 // A byte of the start: the images of zero by the codings of its low half and of its high half.
 fn start_byte(low: u8, high: u8) -> u8
@@ -25,9 +27,9 @@ pub fn start(last: &[u8], out: &mut [u8])
     requires { FirstPermutations 32 last.now × (set_length ≤ length last.now) × (length out.old ≡ start_length) }
     ensures { out.new ≡ coded (set_of last.now) zeros }
 {
-    for k in 0..lengths::START {
+    for (k, byte) in out.iter_mut().enumerate() {
         let at = 2 * lengths::CODING * k;
-        out[k] = start_byte(last[at], last[at + lengths::CODING]);
+        *byte = start_byte(last[at], last[at + lengths::CODING]);
     }
 }
 
@@ -37,31 +39,12 @@ pub fn groups(last: &[u8], message: &[u8], first: &[u8], keys: SubkeyPair, out: 
     requires { FirstPermutations 32 last.now × (set_length ≤ length last.now) × FirstPermutations 32 message.now × (set_length ≤ length message.now) × (set_length ≤ length first.now) × (length out.old ≡ 3 * group_length) }
     ensures { out.new ≡ chunks 3 (λ g. group_part (set_of last.now) (set_of message.now) (set_of first.now) (three_keys keys.k1 keys.k2 g)) }
 {
-    let mut s = [0u8; lengths::SET];
-    invert(last, lengths::SET_CODINGS, &mut s);
-    let mut u = [0u8; lengths::SET];
-    invert(message, lengths::SET_CODINGS, &mut u);
+    let s = InvertedSet::of(last);
+    let u = InvertedSet::of(message);
     let k1 = keys.k1;
     let k2 = keys.k2;
-    fold_tables(
-        &s,
-        &u,
-        first,
-        [0u8; lengths::BLOCK],
-        &mut out[0..lengths::GROUP],
-    );
-    fold_tables(
-        &s,
-        &u,
-        first,
-        k1,
-        &mut out[lengths::GROUP..2 * lengths::GROUP],
-    );
-    fold_tables(
-        &s,
-        &u,
-        first,
-        k2,
-        &mut out[2 * lengths::GROUP..3 * lengths::GROUP],
-    );
+    let blocks = [[0u8; lengths::BLOCK], k1, k2];
+    in_parts(out, lengths::GROUP, 3, |g, part| {
+        fold_tables(&s, &u, first, blocks[g], part)
+    });
 }

@@ -4,52 +4,53 @@ ghost use Rattle.std.specs.Prelude.{◌≡◌, ◌*◌, ◌<◌, length};
 ghost use Rattle.cipher.specs.Lengths.{round_length};
 ghost use Rattle.lists.specs.Tabulation.{chunks};
 ghost use Rattle.cipher.specs.KeySize as S;
-ghost use Rattle.cipher.specs.Chain.{Chain, round_codings};
+ghost use Rattle.cipher.specs.Chain.{Chain};
 ghost use Rattle.cipher.specs.Book.{round_part, book_round};
-ghost use Rattle.table_maker.specs.Made.{RoundReady, codings_of};
+ghost use Rattle.table_maker.specs.Made.{codings_of};
 
-use cipher::invert::invert;
 use cipher::lengths;
-use cipher::size::KeySize;
-use table_maker::adds::add_tables;
-use table_maker::turns::turn_tables;
+use cipher::rows::RoundKeys;
+use parts::in_parts;
+use table_maker::adds::{Middles, add_tables};
+use table_maker::inverted::{InvertedSet, InvertedWords};
+use table_maker::rounds::Round;
+use table_maker::turns::{Sealing, turn_tables};
 
-// A round's tables, from the set before it, the set after it and a chain's bytes for the round,
-// each in the front of a slice, under the row k of round keys.
-fn round_tables(before: &[u8], after: &[u8], round: &[u8], k: [u32; 6], out: &mut [u8])
-    requires { RoundReady before.now after.now round.now × (length out.old ≡ round_length) }
-    ensures { out.new ≡ round_part (codings_of before.now after.now round.now) k }
+// A round's tables, under the row k of round keys.
+fn round_tables(round: Round, k: [u32; 6], out: &mut [u8])
+    requires { length out.old ≡ round_length }
+    ensures { out.new ≡ round_part (codings_of round.entry.before.now round.entry.after.now round.entry.middles.now) k }
 {
-    let mut s = [0u8; lengths::SET];
-    invert(before, lengths::SET_CODINGS, &mut s);
-    let mut m = [0u8; lengths::MASKS];
-    invert(round, lengths::MIDDLES, &mut m);
-    add_tables(&s, round, k, &mut out[0..lengths::TURNS]);
-    turn_tables(&m, after, &mut out[lengths::TURNS..lengths::ROUND_TABLES]);
+    let s = InvertedSet::of(round.before);
+    let m = InvertedWords::of(round.middles);
+    let middles = Middles {
+        bytes: round.middles,
+    };
+    add_tables(&s, middles, k, &mut out[0..lengths::TURNS]);
+    turn_tables::<Sealing>(
+        &m,
+        round.after,
+        &mut out[lengths::TURNS..lengths::ROUND_TABLES],
+    );
 }
 
-// The tables of round l of a chain.
-pub fn round_at(size: KeySize, chain: &[u8], k: [u32; 6], l: usize, out: &mut [u8])
-    requires { Chain size chain.now × (l < S.rounds size) × (length out.old ≡ round_length) }
-    ensures { out.new ≡ round_part (round_codings (S.rounds size) chain.now l) k }
+// The tables of round l of a chain. `reading_book` has one of its own, as it has a round_tables: the rule
+// of its chain is another, and it takes the rows from the last.
+pub fn round_at(keys: &RoundKeys, chain: &[u8], l: usize, out: &mut [u8])
+    requires { Chain keys.now.size chain.now × (l < S.rounds keys.now.size) × (length out.old ≡ round_length) }
+    ensures { out.new ≡ book_round (S.rounds keys.now.size) keys.now.rows chain.now l }
 {
-    let r = size.rounds();
-    let before = lengths::SET * (l + 1);
-    let after = lengths::SET * (l + 2);
-    let round = lengths::SET * (r + 2) + lengths::ROUND_CODINGS * l;
-    round_tables(&chain[before..], &chain[after..], &chain[round..], k, out);
+    let round = Round::of_chain(keys.size, chain, l);
+    round_tables(round, keys.rows[l], out);
 }
 
-// The tables of all rounds.
-pub fn round_parts(size: KeySize, chain: &[u8], rows: [[u32; 6]; 32], out: &mut [u8])
-    requires { Chain size chain.now × (length out.old ≡ S.rounds size * round_length) }
-    ensures { out.new ≡ chunks (S.rounds size) (book_round (S.rounds size) rows chain.now) }
+// The tables of all rounds. A valid chain is asked here and in build.rt, and is no type: with its round
+// keys it would be one for this crate alone, since a reading chain is valid by another rule.
+pub fn round_parts(keys: &RoundKeys, chain: &[u8], out: &mut [u8])
+    requires { Chain keys.now.size chain.now × (length out.old ≡ S.rounds keys.now.size * round_length) }
+    ensures { out.new ≡ chunks (S.rounds keys.now.size) (book_round (S.rounds keys.now.size) keys.now.rows chain.now) }
 {
-    let r = size.rounds();
-    let mut at: usize = 0;
-    for l in 0..r {
-        let to = at + lengths::ROUND_TABLES;
-        round_at(size, chain, rows[l], l, &mut out[at..to]);
-        at = to;
-    }
+    in_parts(out, lengths::ROUND_TABLES, keys.size.rounds(), |l, part| {
+        round_at(keys, chain, l, part)
+    });
 }

@@ -2,12 +2,14 @@
 use mathlib.Core.Path.{◌≡◌, refl, sym, ap, ◌∙◌}
 use mathlib.Core.List.{List}
 use Prim.Native.Nat.{ℕ, zero, suc, ◌<◌}
+use Rattle.std.proofs.Common.{Result, Ok, Err}
+use Rattle.std.specs.Result.{MatchResult, IsOkAnd}
 use native.Mathlib.Omega.{arith}
 use Rattle.cipher.specs.Refusal.{number_of}
 use Rattle.cipher.proofs.AnswerLaws.{number_more}
 use Rattle.cipher.specs.declared.refusal.Refusal.{Refusal}
 use Rattle.inkfile.specs.Reading.{Told}
-use Rattle.bowlinette.specs.Into.{into, kept}
+use Rattle.bowlinette.specs.Into.{into, delivered, kept}
 use Rattle.bowlinette.specs.Ink.{ink_numbers}
 
 -- number n of an answer whose outcome is o
@@ -25,32 +27,6 @@ module _ {A : Type 0} (answer : ℕ × A) (o n : ℕ) (v old : A) (told : (o, v)
       go zero f = absurd (f refl)
       go (suc k) f = refl
 
--- an answer with the buffer x, in which t is told
-module _ {A : Type 0} (answer : (ℕ × A) × List ℕ) (t : ℕ × A) (x : List ℕ) (old : A) (told : (t, x) ≡ answer) where
-  pub kept_taken : (value : A) → t ≡ (0, value) → ((0, value), x) ≡ kept answer old
-  kept_taken value e = ap (λ (y : ℕ × A). kept (y, x) old) (sym e) ∙ ap (λ (a : (ℕ × A) × List ℕ). kept a old) told
-
-  pub kept_refused : (nothing : A) (q : Refusal) (n : ℕ) → t ≡ (number_of q, nothing) → n ≡ number_of q → ((n, old), x) ≡ kept answer old
-  kept_refused nothing q n e h =
-      ap (λ (k : ℕ). ((k, old), x)) h
-      ∙ go (number_of q) (number_more q)
-      ∙ ap (λ (y : ℕ × A). kept (y, x) old) (sym e)
-      ∙ ap (λ (a : (ℕ × A) × List ℕ). kept a old) told
-    where
-      go : (k : ℕ) → 0 < k → ((k, old), x) ≡ kept ((k, nothing), x) old
-      go zero l = absurd (omega arith)
-      go (suc k) l = refl
-
--- a tag t that was delivered with number n of an answer a, and beside it, with that number, a session's record x
-pub into_both : (a : ℕ × List ℕ) (n r : ℕ) (t old x c held : List ℕ) → (n, t) ≡ into a old → (r, c) ≡ into (n, x) held
-    → (r, (t, c)) ≡ into {A = List ℕ × List ℕ} (a.0, (a.1, x)) (old, held)
-into_both (zero, v) n r t old x c held e d =
-    let f : ◌≡◌ {A = ℕ × List ℕ} (r, c) (0, x) = d ∙ ap (λ (p : ℕ × List ℕ). into (p.0, x) held) e in
-    λ i. ((f i).0, ((e i).1, (f i).1))
-into_both (suc q, v) n r t old x c held e d =
-    let f : ◌≡◌ {A = ℕ × List ℕ} (r, c) (suc q, held) = d ∙ ap (λ (p : ℕ × List ℕ). into (p.0, x) held) e in
-    λ i. ((f i).0, ((e i).1, (f i).1))
-
 -- the number r and the number l that were delivered of what is told in t, beside what x is in the buffers
 pub kept_told : {B : Type 0} (answer : (ℕ × ℕ) × B) (t : ℕ × ℕ) (x : B) (r l old : ℕ) → (r, l) ≡ into t old → (t, x) ≡ answer → ((r, l), x) ≡ kept answer old
 kept_told {B} answer t x r l old e h = ap (λ (y : ℕ × ℕ). (y, x)) e ∙ go t ∙ ap (λ (a : (ℕ × ℕ) × B). kept a old) h
@@ -59,13 +35,31 @@ kept_told {B} answer t x r l old e h = ap (λ (y : ℕ × ℕ). (y, x)) e ∙ go
     go (zero, v) = refl
     go (suc n, v) = refl
 
--- number n of an answer a that is refused with q and tells nothing
-pub into_refused : (a : ℕ × ℕ) (q : Refusal) (n old : ℕ) → (number_of q, 0) ≡ a → n ≡ number_of q → (n, old) ≡ into a old
-into_refused a q n old e h = ap (λ (k : ℕ). (k, old)) h ∙ go (number_of q) (number_more q) ∙ ap (λ (b : ℕ × ℕ). into b old) e
-  where
-    go : (k : ℕ) → 0 < k → (k, old) ≡ into (k, 0) old
-    go zero l = absurd (omega arith)
-    go (suc k) l = refl
+-- a result s of an operation r, of which `told` tells what `f` makes of its value, or a refusal and nothing
+module _ {A B : Type 0} (told : Result A Refusal → ℕ × B) (f : A → B) (nothing : B)
+    (ok : (x : A) → told (Ok x) ≡ (0, f x)) (err : (q : Refusal) → told (Err q) ≡ (number_of q, nothing)) where
+  pub delivered_told : (r : Result A Refusal) (s : Result B Refusal) (old : B) → MatchResult r (λ x. IsOkAnd s (λ y. y ≡ f x)) (λ q. s ≡ Err q)
+      → delivered s old ≡ into (told r) old
+  delivered_told (Ok x) (Ok y) old e = ap (λ (v : B). (0, v)) e ∙ ap (λ (t : ℕ × B). into t old) (sym (ok x))
+  delivered_told (Ok x) (Err q) old e = absurd e
+  delivered_told (Err q) s old e =
+      ap (λ (t : Result B Refusal). delivered t old) e ∙ left (number_of q) (number_more q) ∙ ap (λ (t : ℕ × B). into t old) (sym (err q))
+    where
+      left : (k : ℕ) → 0 < k → (k, old) ≡ into (k, nothing) old
+      left zero l = absurd (omega arith)
+      left (suc k) l = refl
+
+-- the result itself, where nothing is made of its value
+pub itself : {A : Type 0} (r : Result A Refusal) → MatchResult r (λ x. IsOkAnd r (λ y. y ≡ x)) (λ q. r ≡ Err q)
+itself (Ok x) = refl
+itself (Err q) = refl
+
+-- a result s that `map` made of r by a closure that gives f
+pub mapped : {A B : Type 0} (f : A → B) (r : Result A Refusal) (s : Result B Refusal) (P : A → B → Type 0) → ((x : A) (y : B) → P x y → y ≡ f x)
+    → MatchResult r (λ x. IsOkAnd s (P x)) (λ q. s ≡ Err q) → MatchResult r (λ x. IsOkAnd s (λ y. y ≡ f x)) (λ q. s ≡ Err q)
+mapped f (Ok x) (Ok y) P h e = h x y e
+mapped f (Ok x) (Err q) P h e = absurd e
+mapped f (Err q) s P h e = e
 
 -- the 18 numbers v of what is told in t of an ink file, which is the answer a
 pub ink_told_lem : (t a : Told) (v : List ℕ) → v ≡ (ink_numbers t).1 → t ≡ a → (t.refusal, v) ≡ ink_numbers a

@@ -1,5 +1,5 @@
 // Ink files (document 02, 2026-02), for C programs.
-ghost use Rattle.std.specs.Prelude.{◌≡◌, [], ◌∷◌};
+ghost use Rattle.std.specs.Prelude.{◌≡◌, [], ◌∷◌, Ok};
 ghost use Rattle.bowlinette.specs.Into.{into, kept};
 ghost use Rattle.bowlinette.specs.Ink.{ink_numbers};
 ghost use Rattle.inkfile.specs.Reading.{read_ink_answer};
@@ -12,7 +12,7 @@ use inkfile::read::Ink;
 // What is told of an ink file as 18 numbers: the places of pad number, IV, sealed blocks, the length of
 // these, the place of the tag, the number of remarks, and four kinds, places and lengths of remarks.
 fn numbers(ink: Ink) -> [u64; 18]
-    ensures { result ≡ (ink_numbers (ink_told ink)).1 }
+    ensures { result ≡ (ink_numbers (ink_told (Ok ink))).1 }
 {
     let k = ink.kinds;
     let o = ink.offsets;
@@ -43,13 +43,13 @@ fn numbers(ink: Ink) -> [u64; 18]
 pub fn bowlinette_read_ink(file: &[u8], ink: &mut [u64; 18]) -> u32
     ensures { (result, ink.new) ≡ into (ink_numbers (read_ink_answer file.now)) ink.old }
 {
-    let found = inkfile::read::read_ink(file);
-    let outcome = found.outcome;
-    let refusal = outcome.number();
-    if refusal == 0 {
-        *ink = numbers(found);
+    match inkfile::read::read_ink(file) {
+        Ok(found) => {
+            *ink = numbers(found);
+            0
+        }
+        Err(why) => why.into(),
     }
-    refusal
 }
 
 // The fields of an ink file written into the front of out, and the length of the file into length.

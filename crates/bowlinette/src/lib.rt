@@ -5,66 +5,58 @@
 
 #![tactic(auto)]
 
-ghost use Rattle.std.specs.Prelude.{◌≡◌};
-ghost use Rattle.cipher.specs.Answers.{block_told, encipher_answer, decipher_answer, rounds_answer, row_answer, set_checked, chain_checked};
+ghost use Rattle.std.specs.Prelude.{◌≡◌, Ok};
+ghost use Rattle.cipher.specs.Answers.{encipher_answer, decipher_answer, rounds_answer, row_answer, set_checked, chain_checked};
 ghost use Rattle.cipher.specs.Refusal.{written_of};
-ghost use Rattle.bowlinette.specs.Into.{into, kept, valid_only};
+ghost use Rattle.bowlinette.specs.Into.{into, delivered, kept, valid_only};
 ghost use Rattle.book.specs.Answers.{build_answer, build_round_answer};
 ghost use Rattle.pad.specs.Answers.{sealing_answer, tag_answer};
 ghost use Rattle.driver.specs.Driver as D;
 ghost use Rattle.archive.specs.Archive as R;
 
-use archive::check::Checked;
-use cipher::answer::BlockAnswer;
-use cipher::refusal::Written;
-use pad::code::TagCode;
+use archive::check::Verdict;
+use cipher::refusal::{Refusal, number};
 
 pub mod chains; // chains.rt: chains from random bytes
 pub mod ink; // ink.rt: ink files
 pub mod review; // review.rt: reading tables
 pub mod session; // session.rt: the tag session
 
-// An answer's block into out, and its number.
-pub fn deliver(a: BlockAnswer, out: &mut [u8; 16]) -> u32
-    ensures { (result, out.new) ≡ into (block_told a) out.old }
+// What an operation gave into `to`, and 0, or the number of its refusal.
+pub fn deliver<T: Copy>(given: Result<T, Refusal>, to: &mut T) -> u32
+    ensures { (result, to.new) ≡ delivered given to.old }
 {
-    let outcome = a.outcome;
-    let refusal = outcome.number();
-    if refusal == 0 {
-        let b = a.block;
-        *out = b;
+    match given {
+        Ok(value) => {
+            *to = value;
+            0
+        }
+        Err(why) => why.into(),
     }
-    refusal
 }
 
 // How many bytes were written into length, and the number.
-pub fn deliver_length(w: Written, length: &mut u64) -> u32
-    ensures { (result, length.new) ≡ into (written_of w) length.old }
+pub fn deliver_length(written: Result<usize, Refusal>, length: &mut u64) -> u32
+    ensures { (result, length.new) ≡ into (written_of written) length.old }
 {
-    match w {
-        Written::Bytes(n) => {
-            *length = n as u64;
-            0
-        }
-        Written::Refused(why) => why.number(),
+    deliver(written.map(|n| n as u64), length)
+}
+
+// A verdict as a byte: 1 for Valid, 0 for Invalid.
+fn byte_of(verdict: Verdict) -> u8
+    ensures { R.checked_told (Ok verdict) ≡ (0, result) }
+{
+    match verdict {
+        Verdict::Valid => 1,
+        Verdict::Invalid => 0,
     }
 }
 
 // A verdict into valid, 1 for Valid, 0 for Invalid, and the number.
-pub fn deliver_verdict(c: Checked, valid: &mut u8) -> u32
-    ensures { (result, valid.new) ≡ into (R.checked_told c) valid.old }
+pub fn deliver_verdict(checked: Result<Verdict, Refusal>, valid: &mut u8) -> u32
+    ensures { (result, valid.new) ≡ into (R.checked_told checked) valid.old }
 {
-    match c {
-        Checked::Valid => {
-            *valid = 1;
-            0
-        }
-        Checked::Invalid => {
-            *valid = 0;
-            0
-        }
-        Checked::Refused(why) => why.number(),
-    }
+    deliver(checked.map(byte_of), valid)
 }
 
 // A block enciphered under a key, into out.
@@ -98,36 +90,28 @@ pub fn bowlinette_first_rounds(
 pub fn bowlinette_round_keys(schedule: u8, key: &[u8], round: usize, row: &mut [u32; 6]) -> u32
     ensures { (result, row.new) ≡ into (row_answer schedule key.now round) row.old }
 {
-    let a = cipher::lea::round_keys(schedule, key, round);
-    let outcome = a.outcome;
-    let number = outcome.number();
-    if number == 0 {
-        let k = a.row;
-        *row = k;
-    }
-    number
+    deliver(cipher::lea::round_keys(schedule, key, round), row)
 }
 
 // Whether a set that comes alone is one.
 pub fn bowlinette_check_set(set: &[u8]) -> u32
     ensures { result ≡ set_checked set.now }
 {
-    cipher::chain::check_set(set).number()
+    number(cipher::chain::check_set(set))
 }
 
 // Whether a chain is one for a key of n bytes.
 pub fn bowlinette_check_chain(n: usize, chain: &[u8]) -> u32
     ensures { result ≡ chain_checked n chain.now }
 {
-    cipher::chain::check_chain(n, chain).number()
+    number(cipher::chain::check_chain(n, chain))
 }
 
 // The book of a key and a chain, into the front of out.
 pub fn bowlinette_build(schedule: u8, key: &[u8], chain: &[u8], out: &mut [u8]) -> u32
     ensures { (result, out.new) ≡ build_answer schedule key.now chain.now out.old }
 {
-    let outcome = book::build::build(schedule, key, chain, out);
-    outcome.number()
+    number(book::build::build(schedule, key, chain, out))
 }
 
 // The tables of one round of that book, the round taken mod its rounds, into the front of out.
@@ -140,8 +124,7 @@ pub fn bowlinette_build_round(
 ) -> u32
     ensures { (result, out.new) ≡ build_round_answer schedule key.now chain.now round out.old }
 {
-    let outcome = book::build::build_round(schedule, key, chain, round, out);
-    outcome.number()
+    number(book::build::build_round(schedule, key, chain, round, out))
 }
 
 // A message coded for sealing by the set u, into the front of out, and the length of that into
@@ -168,14 +151,13 @@ pub fn bowlinette_code_for_tag(
 ) -> u32
     ensures { ((result, (length.new, kind.new)), out.new) ≡ kept (tag_answer u.now message.now out.old) (length.old, kind.old) }
 {
-    let code = pad::code::code_for_tag(u, message, out);
-    match code {
-        TagCode::Coded(n, k) => {
-            *length = n as u64;
-            *kind = k;
+    match pad::code::code_for_tag(u, message, out) {
+        Ok(code) => {
+            *length = code.length as u64;
+            *kind = code.kind;
             0
         }
-        TagCode::Refused(why) => why.number(),
+        Err(why) => why.into(),
     }
 }
 
@@ -249,8 +231,8 @@ pub fn bowlinette_is_valid(schedule: u8, key: &[u8], set: &[u8], message: &[u8],
     ensures { result ≡ valid_only (R.check_answer schedule key.now set.now message.now tag.now) }
 {
     match archive::check::check(schedule, key, set, message, tag) {
-        Checked::Valid => 1,
-        Checked::Invalid => 0,
-        Checked::Refused(_) => 0,
+        Ok(Verdict::Valid) => 1,
+        Ok(Verdict::Invalid) => 0,
+        Err(_) => 0,
     }
 }

@@ -5,34 +5,19 @@ ghost use Rattle.bowlinette.specs.Into.{into};
 ghost use Rattle.bowlinette.specs.Session.{session_in, flag_of, record_of, recorded, tag_recorded};
 
 use crate::deliver;
-use cipher::block::{block_at, put_block};
+use cipher::block::block_at;
 use driver::session::Session;
-
-// A count from its two bytes.
-fn count(low: u8, high: u8) -> u16
-    ensures { result ≡ low + 256 * high }
-{
-    low as u16 + 256 * (high as u16)
-}
 
 // The session in a record.
 fn session_in(b: [u8; 19]) -> Session
     ensures { result ≡ session_in b }
 {
     let block = block_at(&b, 0);
-    let taken = count(b[16], b[17]);
     Session {
         block,
-        taken,
+        taken: u16::from_le_bytes([b[16], b[17]]),
         finished: b[18] != 0,
     }
-}
-
-// Whether a session is finished, as a flag.
-fn flag(finished: bool) -> u8
-    ensures { result ≡ flag_of finished }
-{
-    if finished { 1 } else { 0 }
 }
 
 // A session as a record.
@@ -40,42 +25,30 @@ fn record_of(s: Session) -> [u8; 19]
     ensures { result ≡ record_of s }
 {
     let mut b = [0u8; 19];
-    b[16] = (s.taken % 256) as u8;
-    b[17] = (s.taken / 256) as u8;
-    b[18] = flag(s.finished);
-    let held = s.block;
-    put_block(&mut b, 0, held);
+    let taken = s.taken.to_le_bytes();
+    b[16] = taken[0];
+    b[17] = taken[1];
+    b[18] = u8::from(s.finished);
+    b[0..16].copy_from_slice(&s.block);
     b
-}
-
-// The session of an answer with number n into its record.
-fn deliver_session(n: u32, session: Session, s: &mut [u8; 19]) -> u32
-    ensures { (result, s.new) ≡ into (n, record_of session) s.old }
-{
-    if n == 0 {
-        let b = record_of(session);
-        *s = b;
-    }
-    n
 }
 
 // A fresh session on a book, into its record.
 pub fn bowlinette_begin(s: &mut [u8; 19], book: &[u8]) -> u32
     ensures { (result, s.new) ≡ into (recorded (D.begin_answer book.now)) s.old }
 {
-    let a = driver::session::begin(book);
-    let outcome = a.outcome;
-    deliver_session(outcome.number(), a.session, s)
+    deliver(driver::session::begin(book).map(record_of), s)
 }
 
 // A block call on the session in a record.
 pub fn bowlinette_block_call(s: &mut [u8; 19], book: &[u8], block: &[u8]) -> u32
     ensures { (result, s.new) ≡ into (recorded (D.block_answer book.now block.now (session_in s.old))) s.old }
 {
-    let held = *s;
-    let a = driver::session::block_call(session_in(held), book, block);
-    let outcome = a.outcome;
-    deliver_session(outcome.number(), a.session, s)
+    let held = session_in(*s);
+    deliver(
+        driver::session::block_call(held, book, block).map(record_of),
+        s,
+    )
 }
 
 // A last call on the session in a record, its tag into tag.
@@ -88,8 +61,14 @@ pub fn bowlinette_last_call(
 ) -> u32
     ensures { (result, (tag.new, s.new)) ≡ into (tag_recorded (D.last_answer book.now block.now kind (session_in s.old))) (tag.old, s.old) }
 {
-    let held = *s;
-    let a = driver::session::last_call(session_in(held), book, block, kind);
-    let n = deliver(a.answer, tag);
-    deliver_session(n, a.session, s)
+    let mut held = session_in(*s);
+    match driver::lent::last_call(&mut held, book, block, kind) {
+        Ok(made) => {
+            let record = record_of(held);
+            *tag = made;
+            *s = record;
+            0
+        }
+        Err(why) => why.into(),
+    }
 }

@@ -5,35 +5,36 @@
 #![tactic(auto)]
 
 ghost use Rattle.std.specs.Prelude.{◌≡◌};
+ghost use Rattle.cipher.specs.Answers.{block_told};
 ghost use Rattle.bowlinette.specs.Into.{into, kept};
 ghost use Rattle.bowlinette_test.specs.CbcMac.{cbc_mac_answer};
 ghost use Rattle.bowlinette_test.specs.Digest.{sha256_answer};
 ghost use Rattle.roundtrip.specs.Roundtrips.{tag_roundtrip, seal_roundtrip};
 
-use bowlinette::{deliver_length, deliver_verdict};
+use bowlinette::{deliver, deliver_length, deliver_verdict};
 use cipher::lengths;
 use cipher::refusal::Refusal;
-use cipher::schedules::{Schedule, ScheduleFound, key_rows};
-use cipher::size::{KeySize, SizeFound};
+use cipher::schedules::KeyKind;
+use words::word::bytes;
 
 // How many bytes a message has at most that with its padding is one block of SHA-256.
 const ONE_BLOCK: usize = 55;
+
+// The CBC-MAC of the whole blocks of a text.
+fn cbc_mac(schedule: u8, key: &[u8], text: &[u8]) -> Result<[u8; 16], Refusal>
+    ensures { block_told result ≡ cbc_mac_answer schedule key.now text.now }
+{
+    let kind = KeyKind::of(schedule, key)?;
+    let keys = kind.round_keys(key);
+    let x = cipher::cmac::cbc_mac(&keys, text, text.len() / lengths::BLOCK);
+    Ok(bytes(x))
+}
 
 // For the benchmark: the CBC-MAC of the whole blocks of a text, into out.
 pub fn bowlinette_cbc_mac(schedule: u8, key: &[u8], text: &[u8], out: &mut [u8; 16]) -> u32
     ensures { (result, out.new) ≡ into (cbc_mac_answer schedule key.now text.now) out.old }
 {
-    let ScheduleFound::Numbered(named) = Schedule::of_number(schedule) else {
-        return Refusal::ScheduleNumber.number();
-    };
-    let SizeFound::Found(size) = KeySize::of_key_len(key.len()) else {
-        return Refusal::KeyLength.number();
-    };
-    let rows = key_rows(named, size, key);
-    let x = cipher::cmac::cbc_mac(rows, size, text, text.len() / lengths::BLOCK);
-    let b = words::word::bytes(x);
-    *out = b;
-    0
+    deliver(cbc_mac(schedule, key, text), out)
 }
 
 // For the tests: SHA-256 of a message of one block, into out; a longer message is refused (8).
@@ -41,7 +42,7 @@ pub fn bowlinette_sha256(message: &[u8], out: &mut [u8; 32]) -> u32
     ensures { (result, out.new) ≡ into (sha256_answer message.now) out.old }
 {
     if ONE_BLOCK < message.len() {
-        return Refusal::MessageLength.number();
+        return Refusal::MessageLength.into();
     }
     let d = sha256::digest(message);
     *out = d;

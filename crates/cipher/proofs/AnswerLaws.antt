@@ -1,13 +1,13 @@
 -- The answers of the operations on a key and a block, case by case. The cases exclude each other and leave none out, so
 -- each refusal is given exactly under its condition.
-use Rattle.std.proofs.Common.{◌≡◌, ℕ, ◌%◌, ◌<◌, ◌≤◌, Bool, true, false, cond, not, ◌||◌, eqb, ltb, leb, List, [], ◌++◌, length, sym, refl, ap, ◌∙◌, arith, lit<, ltb-false, le-ltb, lt-ltb, eq-eqb, ne_eqb, eqb-true, le-leb}
+use Rattle.std.proofs.Common.{◌≡◌, ℕ, ◌%◌, ◌<◌, ◌≤◌, Bool, true, false, cond, not, ◌||◌, eqb, ltb, leb, List, [], ◌++◌, length, sym, refl, ap, ◌∙◌, arith, lit<, ltb-false, le-ltb, lt-ltb, eq-eqb, ne_eqb, eqb-true, le-leb, Option, Some, None, Err}
 use borrow.Author.Tests.{eqb-false, lt-leb}
 use Rattle.lists.specs.Blocks.{zeros}
 use Rattle.lists.specs.Refusals.{first}
 use Rattle.lists.proofs.RefusalLaws.{first_hit, first_pass}
 use Rattle.cipher.specs.KeySize.{key_length, size_of_key}
 use Rattle.words.specs.Word.{words4, bytes}
-use Rattle.cipher.specs.Schedules.{schedule_found, Named, key_rows}
+use Rattle.cipher.specs.Schedules.{schedule_found, Named, kind_of, key_kind, key_rows}
 use Rattle.cipher.specs.Answers.{key_length_tests, key_tests, block_tests, bad_text, text_tests, room_tests, schedule_of, key_length_size, key_size, on_block}
 use Rattle.cipher.specs.Refusal.{number_of}
 use Rattle.cipher.specs.declared.refusal.Refusal.{Refusal}
@@ -15,9 +15,7 @@ use Rattle.cipher.specs.declared.refusal.Refusal.TheVariants.{KeyLength, ChainLe
 use Rattle.cipher.specs.declared.refusal.Refusal.TheVariants.{KindByte, BadPadding, SessionFinished, SessionFull, BadRecord, RecordLength, ShortRandom, SizeByte, ScheduleNumber}
 use Rattle.cipher.specs.declared.size.KeySize.{KeySize}
 use Rattle.cipher.specs.declared.size.KeySize.TheVariants.{Bytes16, Bytes24, Bytes32}
-use Rattle.cipher.specs.declared.size.SizeFound.TheVariants.{Found, Unknown}
 use Rattle.cipher.specs.declared.schedules.Schedule.{Schedule}
-use Rattle.cipher.specs.declared.schedules.ScheduleFound.TheVariants.{Numbered, Unnumbered}
 use Rattle.cipher.proofs.KeySizeLaws.{found_length, none_of, one_of}
 use Rattle.cipher.proofs.SchedulesLaws.{number_refused, number_taken}
 
@@ -40,10 +38,10 @@ size_is n Bytes32 e = rw e
 
 -- the test on the length of a key, and then those of `ts`, which may know its size
 module _ {A : Type 0} (n : ℕ) (ts : KeySize → List (Bool × ℕ)) (refuse : ℕ → A) (go : KeySize → A) where
-  pub length_refused : size_of_key n ≡ Unknown → first (key_length_tests n ++ ts (key_length_size n)) refuse (go (key_length_size n)) ≡ refuse 1
+  pub length_refused : size_of_key n ≡ None → first (key_length_tests n ++ ts (key_length_size n)) refuse (go (key_length_size n)) ≡ refuse 1
   length_refused e = first_hit (bad_key n) 1 (ts (key_length_size n)) refuse (go (key_length_size n)) (none_of key_length n e)
 
-  pub length_taken : (z : KeySize) → size_of_key n ≡ Found z
+  pub length_taken : (z : KeySize) → size_of_key n ≡ Some z
       → first (key_length_tests n ++ ts (key_length_size n)) refuse (go (key_length_size n)) ≡ first (ts z) refuse (go z)
   length_taken z e =
       let l = found_length key_length n z e in
@@ -52,18 +50,18 @@ module _ {A : Type 0} (n : ℕ) (ts : KeySize → List (Bool × ℕ)) (refuse : 
 
 -- the tests on a schedule's number and on a key, and then those of `ts`, which may know both
 module _ {A : Type 0} (s : ℕ) (key : List ℕ) (ts : Schedule → KeySize → List (Bool × ℕ)) (refuse : ℕ → A) (go : Schedule → KeySize → A) where
-  pub schedule_refused : schedule_found s ≡ Unnumbered
+  pub schedule_refused : schedule_found s ≡ None
       → first (key_tests s key ++ ts (schedule_of s) (key_size key)) refuse (go (schedule_of s) (key_size key)) ≡ refuse 34
   schedule_refused e = first_hit _ 34 _ refuse _ (number_refused s e)
 
-  module _ (k : Schedule) (e : schedule_found s ≡ Numbered k) where
+  module _ (k : Schedule) (e : schedule_found s ≡ Some k) where
     numbered : first (key_tests s key ++ ts (schedule_of s) (key_size key)) refuse (go (schedule_of s) (key_size key))
         ≡ first (key_length_tests (length key) ++ ts k (key_size key)) refuse (go k (key_size key))
     numbered =
         first_pass _ 34 _ refuse _ (number_taken s k e).0
         ∙ ap (λ (y : Schedule). first (key_length_tests (length key) ++ ts y (key_size key)) refuse (go y (key_size key))) (number_taken s k e).1
 
-    pub key_refused : size_of_key (length key) ≡ Unknown
+    pub key_refused : size_of_key (length key) ≡ None
         → first (key_tests s key ++ ts (schedule_of s) (key_size key)) refuse (go (schedule_of s) (key_size key)) ≡ refuse 1
     key_refused f = numbered ∙ length_refused (length key) (ts k) refuse (go k) f
 
@@ -71,17 +69,38 @@ module _ {A : Type 0} (s : ℕ) (key : List ℕ) (ts : Schedule → KeySize → 
       → first (key_tests s key ++ ts (schedule_of s) (key_size key)) refuse (go (schedule_of s) (key_size key)) ≡ first (ts k z) refuse (go k z)
   key_taken k z n = numbered k n.0 ∙ length_taken (length key) (ts k) refuse (go k) z n.1
 
+-- the same by what is told of number and key together
+module _ {A : Type 0} (s : ℕ) (key : List ℕ) (ts : Schedule → KeySize → List (Bool × ℕ)) (refuse : ℕ → A) (go : Schedule → KeySize → A) (q : Refusal) where
+  pub kind_refused : Err q ≡ key_kind s key
+      → first (key_tests s key ++ ts (schedule_of s) (key_size key)) refuse (go (schedule_of s) (key_size key)) ≡ refuse (number_of q)
+  unfolding kind_of
+  kind_refused = each (schedule_found s) refl (size_of_key (length key)) refl
+    where
+      each : (a : Option Schedule) → schedule_found s ≡ a → (b : Option KeySize) → size_of_key (length key) ≡ b → Err q ≡ kind_of a b
+          → first (key_tests s key ++ ts (schedule_of s) (key_size key)) refuse (go (schedule_of s) (key_size key)) ≡ refuse (number_of q)
+      each None p b n e =
+          let w : q ≡ ScheduleNumber = cc in
+          schedule_refused s key ts refuse go p ∙ ap (λ (x : Refusal). refuse (number_of x)) (sym w)
+      each (Some k) p None n e =
+          let w : q ≡ KeyLength = cc in
+          key_refused s key ts refuse go k p n ∙ ap (λ (x : Refusal). refuse (number_of x)) (sym w)
+      each (Some k) p (Some z) n e = let w : ◌≡◌ {A = ℕ} 0 1 = cc in absurd (omega arith)
+
 module _ (s : ℕ) (key b : List ℕ) (f : Schedule → KeySize → List ℕ) where
   made : Schedule → KeySize → ℕ × List ℕ
   made k z = (0, f k z)
 
-  pub on_schedule : schedule_found s ≡ Unnumbered → on_block s key b f ≡ (34, zeros)
+  pub on_schedule : schedule_found s ≡ None → on_block s key b f ≡ (34, zeros)
   unfolding on_block made
   on_schedule e = schedule_refused s key (λ k z. block_tests b) (λ n. (n, zeros)) made e
 
-  pub on_key : (k : Schedule) → schedule_found s ≡ Numbered k → size_of_key (length key) ≡ Unknown → on_block s key b f ≡ (1, zeros)
+  pub on_key : (k : Schedule) → schedule_found s ≡ Some k → size_of_key (length key) ≡ None → on_block s key b f ≡ (1, zeros)
   unfolding on_block made
   on_key k e h = key_refused s key (λ k z. block_tests b) (λ n. (n, zeros)) made k e h
+
+  pub on_refused : (q : Refusal) → Err q ≡ key_kind s key → on_block s key b f ≡ (number_of q, zeros)
+  unfolding on_block made
+  on_refused q e = kind_refused s key (λ k z. block_tests b) (λ n. (n, zeros)) made q e
 
   module _ (k : Schedule) (z : KeySize) (e : Named s key k z) where
     keyed : on_block s key b f ≡ first (block_tests b) (λ n. (n, zeros)) (0, f k z)

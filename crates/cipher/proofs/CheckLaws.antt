@@ -1,23 +1,47 @@
 -- Laws for the checks of sets and chains: what a turn of a loop, or a rule that was found broken or kept, says of the tests;
 -- and what the number that a check gives says of the set or the chain.
-use Rattle.std.proofs.Common.{◌≡◌, ℕ, suc, ◌+◌, ◌-◌, ◌*◌, ◌<◌, Bool, true, false, cond, List, [], ◌∷◌, ◌++◌, length, take, drop, sym, refl, ap, ◌∙◌, arith, lit<, eq-eqb, ne_eqb}
+use Rattle.std.proofs.Common.{◌≡◌, ℕ, suc, ◌+◌, ◌-◌, ◌*◌, ◌<◌, Bool, true, false, cond, List, [], ◌∷◌, ◌++◌, length, take, drop, sym, refl, ap, ◌∙◌, arith, lit<, eq-eqb, ne_eqb, ◌≤◌, ◌&&◌, eqb, get_or}
 use Rattle.lists.specs.Every.{every}
 use Rattle.lists.specs.Refusals.{first}
-use Rattle.lists.proofs.EveryLaws.{true_and, every_more}
 use Rattle.lists.proofs.RefusalLaws.{Clear}
-use Rattle.lists.proofs.PartLaws.{part_end}
+use Rattle.lists.proofs.EveryLaws.{every_ext}
+use Rattle.lists.proofs.AllLaws.{every_front}
+use Rattle.lists.proofs.PartLaws.{part_end, length_part, get_or_part}
+use Rattle.std.specs.List.{fold, zip}
+use Rattle.std.proofs.Math.Bool.{and_assoc, and-true}
 use Rattle.cipher.specs.KeySize.{rounds, chain_length}
 use Rattle.cipher.specs.Chain.{ChainBy, LoneSet, are_permutations, coding_rule_holds, word_kept, words_kept, mask_rule_holds, set_tests, chain_tests_by}
 use Rattle.cipher.specs.Lengths.{set_length}
 use Rattle.cipher.specs.declared.size.KeySize.{KeySize}
 use Rattle.cipher.proofs.ChainTests.{set_tested, chain_tested}
 
--- ---- a loop that tests one number after another
-
-pub every_next : (n : ℕ) (p : ℕ → Bool) → every n p ≡ true → p n ≡ true → every (n + 1) p ≡ true
-every_next n p h e = every_more n p ∙ true_and (every n p) (p n) h e
-
 -- ---- a word rule, between parts of a chain as the code lends them
+
+-- all pairs so far are the same, and one more
+abbrev pub keep : Bool → ℕ × ℕ → Bool
+keep b p = b && eqb p.0 p.1
+
+kept_all : (xs ys : List ℕ) (b : Bool) → length xs ≡ length ys
+    → fold keep b (zip xs ys) ≡ b && every (length xs) (λ k. eqb (get_or xs k 0) (get_or ys k 0))
+unfolding every
+kept_all [] [] b l = sym (and-true b)
+kept_all [] (y ∷ ys) b l = absurd (omega arith)
+kept_all (x ∷ xs) [] b l = absurd (omega arith)
+kept_all (x ∷ xs) (y ∷ ys) b l =
+    kept_all xs ys (b && eqb x y) (omega arith)
+    ∙ and_assoc b (eqb x y) (every (length xs) (λ k. eqb (get_or xs k 0) (get_or ys k 0)))
+    ∙ ap (λ (q : Bool). b && q) (sym (every_front (length xs) (λ k. eqb (get_or (x ∷ xs) k 0) (get_or (y ∷ ys) k 0))))
+
+pub word_folded : (from to : ℕ) (before after : List ℕ) (r : Bool) → 128 * from + 128 ≤ length before → 128 * to + 128 ≤ length after
+    → r ≡ fold keep true (zip (take (128 * to + 128 - 128 * to) (drop (128 * to) after)) (take (128 * from + 128 - 128 * from) (drop (128 * from) before)))
+    → r ≡ word_kept from to before after
+word_folded from to before after r h k e =
+    let m = length_part after (128 * to) 128 k in
+    let n = length_part before (128 * from) 128 h in
+    e
+    ∙ kept_all _ _ true (m ∙ sym n)
+    ∙ ap (λ (l : ℕ). every l (λ i. eqb (get_or (take (128 * to + 128 - 128 * to) (drop (128 * to) after)) i 0) (get_or (take (128 * from + 128 - 128 * from) (drop (128 * from) before)) i 0))) m
+    ∙ every_ext 128 _ _ (λ i b j. eqb (get_or_part after (128 * to) 128 i b j) (get_or_part before (128 * from) 128 i b j))
 
 pub word_turn : (from to : ℕ) (ch : List ℕ) (l : ℕ) (b : Bool)
     → word_kept from to (take (length ch - set_length * (l + 1)) (drop (set_length * (l + 1)) ch)) (take (length ch - set_length * (l + 2)) (drop (set_length * (l + 2)) ch)) ≡ b

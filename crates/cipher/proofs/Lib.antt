@@ -1,4 +1,5 @@
 pub mod KeySizeLaws
+pub mod PassedLaws
 pub mod SchedulesLaws
 pub mod LeaLaws
 pub mod CmacLaws

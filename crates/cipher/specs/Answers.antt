@@ -1,11 +1,11 @@
 -- What the operations on a key and a block answer: the number of a refusal and zeros, or 0 and what was asked for. And what
 -- the checks of sets and chains answer: the number of a refusal, or 0.
-use Rattle.std.specs.Prelude.{ℕ, ◌%◌, Bool, cond, not, ◌||◌, List, [], ◌∷◌, ◌++◌, length, ◌==◌, nat_le, nat_lt, slice_index_or}
+use Rattle.std.specs.Prelude.{ℕ, ◌%◌, Bool, cond, not, ◌||◌, List, [], ◌∷◌, ◌++◌, length, ◌==◌, nat_le, nat_lt, slice_index_or, Result, Ok, Err}
 use Rattle.lists.specs.Blocks.{zeros, block_length}
 use Rattle.lists.specs.Refusals.{first}
 use Rattle.cipher.specs.KeySize.{rounds}
 use Rattle.cipher.specs.Lengths.{longest_code}
-use Rattle.cipher.specs.Refusal.{outcome_of}
+use Rattle.cipher.specs.Refusal.{number_of}
 use Rattle.words.specs.Rows.{blank}
 use Rattle.cipher.specs.Schedules.{key_rows}
 use Rattle.cipher.specs.Lea.{first_rounds, encipher, decipher}
@@ -14,15 +14,16 @@ use Rattle.cipher.specs.declared.size.KeySize.{KeySize}
 use Rattle.cipher.specs.declared.size.KeySize.TheVariants.{Bytes16, Bytes24, Bytes32}
 use Rattle.cipher.specs.declared.schedules.Schedule.{Schedule}
 use Rattle.cipher.specs.declared.schedules.Schedule.TheVariants.{Lea, WfLea}
-use Rattle.cipher.specs.declared.answer.BlockAnswer.{BlockAnswer}
-use Rattle.cipher.specs.declared.lea.RowAnswer.{RowAnswer}
+use Rattle.cipher.specs.declared.refusal.Refusal.{Refusal}
 
--- an answer as a number and a value
-abbrev pub block_told : BlockAnswer → ℕ × List ℕ
-block_told a = (outcome_of a.outcome, a.block)
+-- an answer as a number and a value: zeros where it was refused
+abbrev pub block_told : Result (List ℕ) Refusal → ℕ × List ℕ
+block_told (Ok b) = (0, b)
+block_told (Err q) = (number_of q, zeros)
 
-abbrev pub row_told : RowAnswer → ℕ × List ℕ
-row_told a = (outcome_of a.outcome, a.row)
+abbrev pub row_told : Result (List ℕ) Refusal → ℕ × List ℕ
+row_told (Ok k) = (0, k)
+row_told (Err q) = (number_of q, blank)
 
 -- refusal 1: a key of no known size. Refusal 7: a block that is not of 16 bytes
 abbrev pub key_length_tests : ℕ → List (Bool × ℕ)

@@ -1,12 +1,8 @@
 -- The numbers of the refusals: document 01's ("Refusals from the input" and "Refusals from the state") and those that document 02 adds.
-use Rattle.std.specs.Prelude.{ℕ, List, [], ◌∷◌}
+use Rattle.std.specs.Prelude.{ℕ, List, [], ◌∷◌, Result, Ok, Err}
 use Rattle.cipher.specs.declared.refusal.Refusal.{Refusal}
 use Rattle.cipher.specs.declared.refusal.Refusal.TheVariants.{KeyLength, ChainLength, NoPermutation, WordRule, MaskByte, BookLength, BlockLength, MessageLength, ShortBuffer}
 use Rattle.cipher.specs.declared.refusal.Refusal.TheVariants.{KindByte, BadPadding, SessionFinished, SessionFull, BadRecord, RecordLength, ShortRandom, SizeByte, ScheduleNumber}
-use Rattle.cipher.specs.declared.refusal.Outcome.{Outcome}
-use Rattle.cipher.specs.declared.refusal.Outcome.TheVariants.{Done, Refused}
-use Rattle.cipher.specs.declared.refusal.Written.{Written}
-use Rattle.cipher.specs.declared.refusal.Written.TheVariants as written
 
 abbrev pub number_of : Refusal → ℕ
 number_of KeyLength = 1
@@ -29,14 +25,14 @@ number_of SizeByte = 33
 number_of ScheduleNumber = 34
 
 -- an outcome as a number: 0 where the operation was done
-abbrev pub outcome_of : Outcome → ℕ
-outcome_of Done = 0
-outcome_of (Refused q) = number_of q
+abbrev pub outcome_of : Result (Unit {0}) Refusal → ℕ
+outcome_of (Ok _) = 0
+outcome_of (Err q) = number_of q
 
 -- and where an operation writes or draws, the number and how many bytes: none where it was refused
-abbrev pub written_of : Written → ℕ × ℕ
-written_of (written.Bytes n) = (0, n)
-written_of (written.Refused q) = (number_of q, 0)
+abbrev pub written_of : Result ℕ Refusal → ℕ × ℕ
+written_of (Ok n) = (0, n)
+written_of (Err q) = (number_of q, 0)
 
 -- the order in which refusals are given where several apply: document 01's order of numbers, with the numbers of later requests in
 -- their places, as document 02 says

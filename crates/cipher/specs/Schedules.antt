@@ -1,24 +1,37 @@
 -- The two schedules and their numbers (document 02, 2026-07): 0 for LEA's own, 1 for WF-LEA's.
-use Rattle.std.specs.Prelude.{◌≡◌, ℕ, cond, List, length, ◌==◌}
+use Rattle.std.specs.Prelude.{◌≡◌, ℕ, cond, List, length, ◌==◌, Option, Some, None, Result, Ok, Err}
+use Rattle.std.specs.Option.{ok_or}
 use Rattle.words.specs.Word.{words4}
 use Rattle.lea_schedule.specs.Schedule.{step16, row16, step24, row24, step32, row32, words6, words8, filled}
 use Rattle.wf_lea.specs.WfLea.{rows}
 use Rattle.cipher.specs.KeySize.{rounds, size_of_key}
 use Rattle.cipher.specs.declared.size.KeySize.{KeySize}
 use Rattle.cipher.specs.declared.size.KeySize.TheVariants.{Bytes16, Bytes24, Bytes32}
-use Rattle.cipher.specs.declared.size.SizeFound.TheVariants.{Found}
 use Rattle.cipher.specs.declared.schedules.Schedule.{Schedule}
 use Rattle.cipher.specs.declared.schedules.Schedule.TheVariants.{Lea, WfLea}
-use Rattle.cipher.specs.declared.schedules.ScheduleFound.{ScheduleFound}
-use Rattle.cipher.specs.declared.schedules.ScheduleFound.TheVariants.{Numbered, Unnumbered}
+use Rattle.cipher.specs.declared.schedules.KeyKind.{KeyKind}
+use Rattle.cipher.specs.declared.refusal.Refusal.{Refusal}
+use Rattle.cipher.specs.declared.refusal.Refusal.TheVariants.{KeyLength, ScheduleNumber}
 
--- the schedule numbered n
-unfoldable pub schedule_found : ℕ → ScheduleFound
-schedule_found n = cond (n == 0) (Numbered Lea) (cond (n == 1) (Numbered WfLea) Unnumbered)
+-- the schedule numbered n, and the same where another number is refused
+unfoldable pub schedule_found : ℕ → Option Schedule
+schedule_found n = cond (n == 0) (Some Lea) (cond (n == 1) (Some WfLea) None)
+
+unfoldable pub numbered : ℕ → Result Schedule Refusal
+numbered n = ok_or (schedule_found n) ScheduleNumber
 
 -- the number s and the key name a schedule and a size: they are not refused
 abbrev pub Named : ℕ → List ℕ → Schedule → KeySize → Type 0
-Named s key k z = (schedule_found s ≡ Numbered k) × (size_of_key (length key) ≡ Found z)
+Named s key k z = (schedule_found s ≡ Some k) × (size_of_key (length key) ≡ Some z)
+
+-- the schedule and the size that they name, or why there are none: the number is refused before the key's length
+unfoldable pub kind_of : Option Schedule → Option KeySize → Result KeyKind Refusal
+kind_of None z = Err ScheduleNumber
+kind_of (Some k) None = Err KeyLength
+kind_of (Some k) (Some z) = Ok (record { schedule = k; size = z })
+
+abbrev pub key_kind : ℕ → List ℕ → Result KeyKind Refusal
+key_kind s key = kind_of (schedule_found s) (size_of_key (length key))
 
 -- LEA's rows of a key of a size
 unfoldable pub schedule : KeySize → List ℕ → List (List ℕ)

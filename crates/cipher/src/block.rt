@@ -27,9 +27,7 @@ pub fn block_at(s: &[u8], at: usize) -> [u8; 16]
     ensures { result ≡ take block_length (drop at s.now) }
 {
     let mut b = [0u8; 16];
-    for k in 0..lengths::BLOCK {
-        b[k] = s[at + k];
-    }
+    b.copy_from_slice(&s[at..at + lengths::BLOCK]);
     b
 }
 
@@ -38,9 +36,7 @@ pub fn put_block(d: &mut [u8], at: usize, b: [u8; 16])
     requires { at + block_length ≤ length d.old }
     ensures { d.new ≡ take at d.old ++ b ++ drop (at + block_length) d.old }
 {
-    for k in 0..lengths::BLOCK {
-        d[at + k] = b[k];
-    }
+    d[at..at + lengths::BLOCK].copy_from_slice(&b);
 }
 
 // Byte k of a block, x, coded: codings 2k and 2k + 1 serve its halves.
@@ -58,9 +54,5 @@ pub fn code_block(set: &[u8], b: [u8; 16]) -> [u8; 16]
     requires { (set_length ≤ length set.now) × LowSet set.now }
     ensures { result ≡ coded (set_of set.now) b }
 {
-    let mut c = [0u8; 16];
-    for k in 0..lengths::BLOCK {
-        c[k] = code_byte(set, k, b[k]);
-    }
-    c
+    std::array::from_fn(|k| code_byte(set, k, b[k]))
 }

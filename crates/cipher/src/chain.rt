@@ -11,8 +11,8 @@ ghost use Rattle.cipher.specs.Chain as C;
 ghost use Rattle.cipher.specs.Answers.{set_checked, chain_checked};
 
 use crate::lengths;
-use crate::refusal::{Outcome, Refusal};
-use crate::size::{KeySize, SizeFound};
+use crate::refusal::Refusal;
+use crate::size::KeySize;
 use seen::all_seen;
 
 // Whether coding k of those in s is a permutation: whether all 16 values are seen in it.
@@ -28,27 +28,21 @@ fn are_permutations(s: &[u8], n: usize) -> bool
     requires { coding_length * n ≤ length s.now }
     ensures { result ≡ C.are_permutations n s.now }
 {
-    for k in 0..n {
-        if !is_permutation(s, k) {
-            return false;
-        }
-    }
-    true
+    (0..n).all(|k| is_permutation(s, k))
 }
 
-// Whether the middle codings of every round of a chain of r rounds are permutations.
+// Whether the middle codings of every round of a chain of r rounds are permutations. The rounds and the
+// chain's length are asked of four functions, each for itself: words_kept, which CLAIMS names, is lent
+// both.
 fn middles_permute(chain: &[u8], r: usize) -> bool
     requires { (r ≤ 32) × (1024 + 920 * r ≤ length chain.now) }
     ensures { result ≡ every r (λ l. C.are_permutations 24 (C.round_bytes r chain.now l)) }
 {
     let sets = lengths::SET * (r + 2);
-    for l in 0..r {
-        let at = sets + lengths::ROUND_CODINGS * l;
-        if !are_permutations(&chain[at..], lengths::MIDDLES) {
-            return false;
-        }
-    }
-    true
+    (0..r).all(|l| are_permutations(
+        &chain[sets + lengths::ROUND_CODINGS * l..],
+        lengths::MIDDLES,
+    ))
 }
 
 // Whether all codings of a chain of r rounds are permutations.
@@ -62,31 +56,18 @@ fn codings_permute(chain: &[u8], r: usize) -> bool
     middles_permute(chain, r)
 }
 
-// Whether all bytes so far, and one pair more, are kept.
-fn still_kept(kept: bool, new: u8, old: u8) -> bool
-    ensures { result ≡ kept && (new == old) }
-{
-    if new != old {
-        return false;
-    }
-    kept
-}
-
 // Whether word `to` of the set in after is coded as word `from` of the set in before. All bytes are
 // looked at, since that is quicker than to stop at the first that differs.
 pub fn word_kept(before: &[u8], from: usize, after: &[u8], to: usize) -> bool
     requires { (from < 4) × (to < 4) × (set_length ≤ length before.now) × (set_length ≤ length after.now) }
     ensures { result ≡ C.word_kept from to before.now after.now }
 {
-    let mut kept = true;
-    for k in 0..lengths::WORD {
-        kept = still_kept(
-            kept,
-            after[lengths::WORD * to + k],
-            before[lengths::WORD * from + k],
-        );
-    }
-    kept
+    let new = lengths::WORD * to;
+    let old = lengths::WORD * from;
+    after[new..new + lengths::WORD]
+        .iter()
+        .zip(before[old..old + lengths::WORD].iter())
+        .fold(true, |kept, (x, y)| kept & (*x == *y))
 }
 
 // Whether the same holds between each set of a chain of r rounds and the next.
@@ -94,14 +75,12 @@ pub fn words_kept(chain: &[u8], r: usize, from: usize, to: usize) -> bool
     requires { (r ≤ 32) × (1024 + 920 * r ≤ length chain.now) × (from < 4) × (to < 4) }
     ensures { result ≡ C.words_kept from to r chain.now }
 {
-    for set in 0..r {
-        let before = lengths::SET * (set + 1);
-        let after = lengths::SET * (set + 2);
-        if !word_kept(&chain[before..], from, &chain[after..], to) {
-            return false;
-        }
-    }
-    true
+    (0..r).all(|set| word_kept(
+        &chain[lengths::SET * (set + 1)..],
+        from,
+        &chain[lengths::SET * (set + 2)..],
+        to,
+    ))
 }
 
 // Whether the masks of a round hold, whose bytes s begins with.
@@ -109,12 +88,7 @@ fn masks_hold(s: &[u8]) -> bool
     requires { round_codings_length ≤ length s.now }
     ensures { result ≡ C.masks_hold s.now }
 {
-    for k in 0..lengths::MIDDLES {
-        if 1 < s[lengths::MASKS + k] {
-            return false;
-        }
-    }
-    true
+    (0..lengths::MIDDLES).all(|k| s[lengths::MASKS + k] < 2)
 }
 
 // Whether the masks of every round of a chain of r rounds hold.
@@ -123,63 +97,55 @@ fn all_masks_hold(chain: &[u8], r: usize) -> bool
     ensures { result ≡ C.mask_rule_holds r chain.now }
 {
     let sets = lengths::SET * (r + 2);
-    for l in 0..r {
-        let at = sets + lengths::ROUND_CODINGS * l;
-        if !masks_hold(&chain[at..]) {
-            return false;
-        }
-    }
-    true
+    (0..r).all(|l| masks_hold(&chain[sets + lengths::ROUND_CODINGS * l..]))
 }
 
 // A lone set: its length (2), its codings (3).
-pub fn check_set(set: &[u8]) -> Outcome
+pub fn check_set(set: &[u8]) -> Result<(), Refusal>
     ensures { outcome_of result ≡ set_checked set.now }
 {
     if set.len() != lengths::SET {
-        return Outcome::Refused(Refusal::ChainLength);
+        return Err(Refusal::ChainLength);
     }
     if !are_permutations(set, lengths::SET_CODINGS) {
-        return Outcome::Refused(Refusal::NoPermutation);
+        return Err(Refusal::NoPermutation);
     }
-    Outcome::Done
+    Ok(())
 }
 
 // A chain for a key of a known size, with the word rule that goes from one word to another: its
 // length (2), its codings (3), the word rule (4), its masks (5).
-pub fn check_rule(size: KeySize, chain: &[u8], from: usize, to: usize) -> Outcome
+pub fn check_rule(size: KeySize, chain: &[u8], from: usize, to: usize) -> Result<(), Refusal>
     requires { (from < 4) × (to < 4) }
     ensures { outcome_of result ≡ first (C.chain_tests_by from to size chain.now) (λ n. n) 0 }
 {
     if chain.len() != size.chain_len() {
-        return Outcome::Refused(Refusal::ChainLength);
+        return Err(Refusal::ChainLength);
     }
     let r = size.rounds();
     if !codings_permute(chain, r) {
-        return Outcome::Refused(Refusal::NoPermutation);
+        return Err(Refusal::NoPermutation);
     }
     if !words_kept(chain, r, from, to) {
-        return Outcome::Refused(Refusal::WordRule);
+        return Err(Refusal::WordRule);
     }
     if !all_masks_hold(chain, r) {
-        return Outcome::Refused(Refusal::MaskByte);
+        return Err(Refusal::MaskByte);
     }
-    Outcome::Done
+    Ok(())
 }
 
 // The same with the word 3 rule.
-pub fn check_sized(size: KeySize, chain: &[u8]) -> Outcome
+pub fn check_sized(size: KeySize, chain: &[u8]) -> Result<(), Refusal>
     ensures { outcome_of result ≡ first (C.chain_tests size chain.now) (λ n. n) 0 }
 {
     check_rule(size, chain, 0, 3)
 }
 
 // A chain for a key of n bytes: the key's length (1), then as above.
-pub fn check_chain(n: usize, chain: &[u8]) -> Outcome
+pub fn check_chain(n: usize, chain: &[u8]) -> Result<(), Refusal>
     ensures { outcome_of result ≡ chain_checked n chain.now }
 {
-    let SizeFound::Found(size) = KeySize::of_key_len(n) else {
-        return Outcome::Refused(Refusal::KeyLength);
-    };
+    let size = KeySize::of_key_len(n).ok_or(Refusal::KeyLength)?;
     check_sized(size, chain)
 }

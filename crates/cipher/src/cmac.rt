@@ -6,13 +6,12 @@ ghost use Rattle.words.specs.Word.{words4};
 ghost use Rattle.cipher.specs.Lea.{first_rounds};
 ghost use Rattle.cipher.specs.Cmac as C;
 
-use crate::round::four_rounds;
-use crate::size::KeySize;
-use crate::{lengths, rows};
+use crate::lengths;
+use crate::rows::RoundKeys;
 use words::word::{bytes, words, xor};
 
 // The subkeys of a key.
-#[derive(Clone, Copy)]
+#[derive(Clone, Copy, Debug, PartialEq, Eq)]
 pub struct SubkeyPair {
     pub k1: [u8; 16],
     pub k2: [u8; 16],
@@ -30,6 +29,7 @@ pub fn double(b: [u8; 16]) -> [u8; 16]
     ensures { result ≡ C.double b }
 {
     let mut d = [0u8; 16];
+    // By index: each byte takes a bit of the one after it.
     for k in 0..15 {
         d[k] = shifted(b[k], b[k + 1]);
     }
@@ -42,37 +42,27 @@ pub fn double(b: [u8; 16]) -> [u8; 16]
     d
 }
 
-// K1 and K2 under the rows of a schedule.
-pub fn subkeys(rows: [[u32; 6]; 32], size: KeySize) -> SubkeyPair
-    ensures { (result.k1 ≡ C.subkey1 (first_rounds rows (rounds size))) × (result.k2 ≡ C.subkey2 (first_rounds rows (rounds size))) }
+// K1 and K2 under round keys.
+pub fn subkeys(keys: &RoundKeys) -> SubkeyPair
+    ensures k1 { result.k1 ≡ C.subkey1 (first_rounds keys.now.rows (rounds keys.now.size)) }
+    ensures k2 { result.k2 ≡ C.subkey2 (first_rounds keys.now.rows (rounds keys.now.size)) }
 {
-    let l = bytes(rows::encipher(rows, size, [0u32; 4]));
+    let l = bytes(keys.encipher([0u32; 4]));
     let k1 = double(l);
     let k2 = double(k1);
     SubkeyPair { k1, k2 }
 }
 
-// The CBC-MAC, in words, of the first n blocks of a text, from the zero block. The rows
-// stay here and each round is handed its row, so that no block pays for a copy of them.
-pub fn cbc_mac(rows: [[u32; 6]; 32], size: KeySize, text: &[u8], n: usize) -> [u32; 4]
+// The CBC-MAC, in words, of the first n blocks of a text, from the zero block.
+pub fn cbc_mac(keys: &RoundKeys, text: &[u8], n: usize) -> [u32; 4]
     requires { block_length * n ≤ length text.now }
-    ensures { result ≡ words4 (C.cbc_mac (first_rounds rows (rounds size)) zeros (cut n text.now)) }
+    ensures { result ≡ words4 (C.cbc_mac (first_rounds keys.now.rows (rounds keys.now.size)) zeros (cut n text.now)) }
 {
-    let fours = size.rounds() / 4;
     let mut x = [0u32; 4];
+    // By index: with as_chunks one law more would be asked, for one line less.
     for k in 0..n {
         let at = lengths::BLOCK * k;
-        let mut y = xor(x, words(&text[at..]));
-        for q in 0..fours {
-            let z = four_rounds(
-                rows[4 * q],
-                rows[4 * q + 1],
-                rows[4 * q + 2],
-                rows[4 * q + 3],
-                y,
-            );
-            y = z;
-        }
+        let y = keys.encipher(xor(x, words(&text[at..])));
         x = y;
     }
     x

@@ -9,6 +9,7 @@ ghost use Rattle.cipher.specs.Images.{images_of, imaged};
 
 use crate::invert::wide;
 use crate::lengths;
+use parts::in_parts;
 
 // What the sixteen bytes whose high half is h become at place k.
 fn image_row(set: &[u8], k: usize, h: usize, out: &mut [u8])
@@ -17,8 +18,8 @@ fn image_row(set: &[u8], k: usize, h: usize, out: &mut [u8])
 {
     let at = 2 * lengths::CODING * k;
     let high = 16 * set[at + lengths::CODING + h];
-    for l in 0..lengths::VALUES {
-        out[l] = set[at + l] + high;
+    for (l, code) in out.iter_mut().enumerate() {
+        *code = set[at + l] + high;
     }
 }
 
@@ -27,25 +28,18 @@ pub fn images(set: &[u8], out: &mut [u8])
     requires { (set_length ≤ length set.now) × LowSet set.now × (length out.old ≡ images_length) }
     ensures { out.new ≡ images_of set.now }
 {
-    let mut a: usize = 0;
-    for r in 0..lengths::BYTES {
-        let e = a + lengths::VALUES;
-        image_row(
-            set,
-            r / lengths::VALUES,
-            r % lengths::VALUES,
-            &mut out[a..e],
-        );
-        a = e;
-    }
+    in_parts(out, lengths::VALUES, lengths::BYTES, |r, row| {
+        image_row(set, r / lengths::VALUES, r % lengths::VALUES, row)
+    });
 }
 
-// One block coded by such a table.
+// One block coded by such a table. A table is a slice with a length, and so is a set (block.rt), since
+// CLAIMS names the functions that are lent them: an array would ask more of their callers.
 pub fn look_up(images: &[u8], block: &[u8], out: &mut [u8])
     requires { (length images.now ≡ images_length) × (length block.now ≡ block_length) × (length out.old ≡ block_length) }
     ensures { out.new ≡ imaged images.now block.now }
 {
-    for k in 0..lengths::BLOCK {
-        out[k] = images[lengths::BYTES * k + wide(block[k])];
+    for (k, code) in out.iter_mut().enumerate() {
+        *code = images[lengths::BYTES * k + wide(block[k])];
     }
 }

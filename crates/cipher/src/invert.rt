@@ -6,6 +6,7 @@ ghost use Rattle.lists.specs.Tabulation.{tab};
 ghost use Rattle.cipher.specs.Coding.{Permutation, FirstPermutations, coding_at, decode, inverted};
 
 use crate::lengths;
+use parts::in_parts;
 
 // A byte as a place in a slice.
 pub fn wide(x: u8) -> usize
@@ -19,21 +20,22 @@ fn invert_one(codings: &[u8], k: usize, out: &mut [u8])
     requires { (coding_length * k + coding_length ≤ length codings.now) × (length out.old ≡ coding_length) × Permutation (coding_at codings.now k) }
     ensures { out.new ≡ tab coding_length (decode (coding_at codings.now k)) }
 {
-    for v in 0..lengths::VALUES {
-        let image = wide(codings[lengths::CODING * k + v]);
-        out[image] = v as u8;
+    let at = lengths::CODING * k;
+    for (v, image) in codings[at..at + lengths::CODING].iter().enumerate() {
+        out[wide(*image)] = v as u8;
     }
 }
 
-// The first n codings of a slice inverted, each in its place.
+// The first n codings of a slice inverted, each in its place. That they are permutations is asked, and
+// is no type: CLAIMS names the function, which is lent the front of a chain.
 pub fn invert(codings: &[u8], n: usize, out: &mut [u8])
     requires { (coding_length * n ≤ length codings.now) × (length out.old ≡ n * coding_length) × FirstPermutations n codings.now }
     ensures { out.new ≡ inverted n codings.now }
 {
-    let mut a: usize = 0;
-    for k in 0..n {
-        let e = a + lengths::CODING;
-        invert_one(codings, k, &mut out[a..e]);
-        a = e;
-    }
+    in_parts(
+        out,
+        lengths::CODING,
+        n,
+        |k, part| invert_one(codings, k, part),
+    );
 }

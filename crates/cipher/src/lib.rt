@@ -6,7 +6,6 @@
 pub mod lengths; // lengths.rt: the lengths that are the same for all key sizes
 pub mod size; // size.rt: the three key sizes and the lengths that go with them
 pub mod refusal; // refusal.rt: what an operation refuses, by number
-pub mod answer; // answer.rt: a block or a refusal as an answer
 pub mod schedules; // schedules.rt: the two schedules, and the rows of a key
 pub mod round; // round.rt: a round of LEA, and the same undone
 pub mod rows; // rows.rt: blocks under the rows of a schedule

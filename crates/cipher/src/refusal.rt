@@ -2,7 +2,10 @@
 ghost use Rattle.std.specs.Prelude.{◌≡◌};
 ghost use Rattle.cipher.specs.Refusal.{number_of, outcome_of};
 
-#[derive(Clone, Copy)]
+use std::error::Error;
+use std::fmt;
+
+#[derive(Clone, Copy, Debug, PartialEq, Eq, Hash)]
 pub enum Refusal {
     KeyLength,
     ChainLength,
@@ -24,25 +27,11 @@ pub enum Refusal {
     ScheduleNumber,
 }
 
-// The outcome of an operation that gives nothing else.
-#[derive(Clone, Copy)]
-pub enum Outcome {
-    Done,
-    Refused(Refusal),
-}
+impl From<Refusal> for u32 {
+    ghost from_gives = { λ why n. n ≡ number_of why };
 
-// The outcome of an operation that writes bytes, or draws them: how many.
-#[derive(Clone, Copy)]
-pub enum Written {
-    Bytes(usize),
-    Refused(Refusal),
-}
-
-impl Refusal {
-    pub fn number(self) -> u32
-        ensures { result ≡ number_of self }
-    {
-        match self {
+    fn from(why: Refusal) -> u32 {
+        match why {
             Refusal::KeyLength => 1,
             Refusal::ChainLength => 2,
             Refusal::NoPermutation => 3,
@@ -65,14 +54,20 @@ impl Refusal {
     }
 }
 
-impl Outcome {
-    // 0 where the operation was done, else the refusal's number.
-    pub fn number(self) -> u32
-        ensures { result ≡ outcome_of self }
-    {
-        match self {
-            Outcome::Done => 0,
-            Outcome::Refused(why) => why.number(),
-        }
+impl fmt::Display for Refusal {
+    fn fmt<W: fmt::Write>(&self, f: &mut fmt::Formatter<W>) -> fmt::Result {
+        write!(f, "refused {}", u32::from(*self))
+    }
+}
+
+impl Error for Refusal {}
+
+// An outcome as a number, for the C interface: 0 where the operation was done, else the refusal's.
+pub fn number(outcome: Result<(), Refusal>) -> u32
+    ensures { result ≡ outcome_of outcome }
+{
+    match outcome {
+        Ok(()) => 0,
+        Err(why) => why.into(),
     }
 }

@@ -9,14 +9,14 @@ use words::word::{rotate_left, rotate_right};
 fn keyed(x: u32, k: u32, y: u32, l: u32) -> u32
     ensures { result ≡ L.keyed x k y l }
 {
-    std::num::wrapping_add_u32(x ^ k, y ^ l)
+    (x ^ k).wrapping_add(y ^ l)
 }
 
 // The word that gives the sum s together with x under k, its own key l taken off.
 fn unkeyed(s: u32, x: u32, k: u32, l: u32) -> u32
     ensures { result ≡ L.unkeyed s x k l }
 {
-    std::num::wrapping_sub_u32(s, x ^ k) ^ l
+    s.wrapping_sub(x ^ k) ^ l
 }
 
 // A round. Its words are made from the last to the first, each then at the place of a word that is

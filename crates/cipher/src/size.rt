@@ -1,22 +1,16 @@
 // The three key sizes. Each carries its own round count, chain length and book length; builder,
 // checks and driver take these numbers from here.
-ghost use Rattle.std.specs.Prelude.{◌≡◌};
+ghost use Rattle.std.specs.Prelude.{◌≡◌, ℕ};
 ghost use Rattle.cipher.specs.KeySize as S;
+ghost use Rattle.cipher.specs.declared.size.KeySize as D;
 
 use crate::lengths;
 
-#[derive(Clone, Copy)]
+#[derive(Clone, Copy, Debug, PartialEq, Eq, Hash)]
 pub enum KeySize {
     Bytes16,
     Bytes24,
     Bytes32,
-}
-
-// What a length tells: the key size that it belongs to, or none.
-#[derive(Clone, Copy)]
-pub enum SizeFound {
-    Found(KeySize),
-    Unknown,
 }
 
 impl KeySize {
@@ -52,35 +46,34 @@ impl KeySize {
         lengths::BODY + (lengths::ROUNDS + lengths::ROUND_TABLES * self.rounds())
     }
 
+    // The size whose length, as `length` tells it, is n.
+    pub fn with_length<F: Fn(KeySize) -> usize>(n: usize, length: F) -> Option<KeySize>
+        requires { F.IsAlwaysCallable length }
+        ensures { (len : D.KeySize → ℕ) → ((z : D.KeySize) (m : ℕ) → F.post length z m → m ≡ len z) → result ≡ S.size_by len n }
+    {
+        if n == length(KeySize::Bytes16) {
+            return Some(KeySize::Bytes16);
+        }
+        if n == length(KeySize::Bytes24) {
+            return Some(KeySize::Bytes24);
+        }
+        if n == length(KeySize::Bytes32) {
+            return Some(KeySize::Bytes32);
+        }
+        None
+    }
+
     // The size of a key of n bytes.
-    pub fn of_key_len(n: usize) -> SizeFound
+    pub fn of_key_len(n: usize) -> Option<KeySize>
         ensures { result ≡ S.size_of_key n }
     {
-        if n == KeySize::Bytes16.key_len() {
-            return SizeFound::Found(KeySize::Bytes16);
-        }
-        if n == KeySize::Bytes24.key_len() {
-            return SizeFound::Found(KeySize::Bytes24);
-        }
-        if n == KeySize::Bytes32.key_len() {
-            return SizeFound::Found(KeySize::Bytes32);
-        }
-        SizeFound::Unknown
+        KeySize::with_length(n, |size| size.key_len())
     }
 
     // The size of the key of a book of n bytes.
-    pub fn of_book_len(n: usize) -> SizeFound
+    pub fn of_book_len(n: usize) -> Option<KeySize>
         ensures { result ≡ S.size_of_book n }
     {
-        if n == KeySize::Bytes16.book_len() {
-            return SizeFound::Found(KeySize::Bytes16);
-        }
-        if n == KeySize::Bytes24.book_len() {
-            return SizeFound::Found(KeySize::Bytes24);
-        }
-        if n == KeySize::Bytes32.book_len() {
-            return SizeFound::Found(KeySize::Bytes32);
-        }
-        SizeFound::Unknown
+        KeySize::with_length(n, |size| size.book_len())
     }
 }

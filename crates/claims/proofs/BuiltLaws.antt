@@ -1,5 +1,6 @@
 -- What an answer 0 of a builder tells: the key has a known size, the chain is valid, and the book, or the reading book, in the buffer is
 -- that of the key's rows and the chain. And when it is given: with every such key and chain, into a buffer with room.
+use Rattle.std.proofs.Common.{Some, None}
 use mathlib.Core.Path.{◌≡◌, refl, sym, ap, ◌∙◌, subst}
 use mathlib.Core.Bool.{Bool, true, false, cond, not, ◌||◌}
 use mathlib.Core.List.{List, [], ◌∷◌, ◌++◌}
@@ -16,7 +17,6 @@ use Rattle.cipher.specs.Chain.{ChainBy, Chain, chain_tests_by}
 use Rattle.cipher.specs.Book.{book_of, whole_book, book_body, Book}
 use Rattle.cipher.specs.Answers.{schedule_of, key_length_size, key_size, room_tests}
 use Rattle.cipher.specs.declared.size.KeySize.{KeySize}
-use Rattle.cipher.specs.declared.size.SizeFound.TheVariants.{Found, Unknown}
 use Rattle.cipher.specs.declared.size.KeySize.TheVariants.{Bytes16, Bytes24, Bytes32}
 use Rattle.cipher.proofs.CheckLaws.{Numbered}
 use Rattle.cipher.proofs.ChainTests.{chain_tested}
@@ -65,12 +65,12 @@ clear_front [] b c = tt
 clear_front (t ∷ a) b c = (c.0, clear_front a b c.1)
 
 -- the size of a key that is not refused
-pub size_known : (n : ℕ) → not (eqb n 16 || eqb n 24 || eqb n 32) ≡ false → size_of_key n ≡ Found (key_length_size n)
+pub size_known : (n : ℕ) → not (eqb n 16 || eqb n 24 || eqb n 32) ≡ false → size_of_key n ≡ Some (key_length_size n)
 unfolding size_by key_length_size
 size_known n = go (eqb n 16) (eqb n 24) (eqb n 32)
   where
     go : (a b c : Bool) → not (a || b || c) ≡ false
-        → cond a (Found Bytes16) (cond b (Found Bytes24) (cond c (Found Bytes32) Unknown)) ≡ Found (cond a Bytes16 (cond b Bytes24 Bytes32))
+        → cond a (Some Bytes16) (cond b (Some Bytes24) (cond c (Some Bytes32) None)) ≡ Some (cond a Bytes16 (cond b Bytes24 Bytes32))
     go true b c e = refl
     go false true c e = refl
     go false false true e = refl
@@ -128,7 +128,7 @@ module _ (schedule : ℕ) (key ch out held : List ℕ) (built : Built schedule k
       subst (λ (b : List ℕ). Book (key_rounds key) rows ch b) (sym built_body) (book_made (key_rounds key) rows ch)
 
   -- it is admitted
-  pub built_found : admit_answer (book_in key held) ≡ (0, Found (key_size key))
+  pub built_found : admit_answer (book_in key held) ≡ (0, Some (key_size key))
   built_found =
       book_admitted (book_in key held) (key_size key) (ap length built_is ∙ whole_length (key_size key) (key_rows (schedule_of schedule) (key_size key) key) ch)
       (ap (λ (b : List ℕ). get_or b 0 0) built_is)

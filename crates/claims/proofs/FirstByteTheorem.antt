@@ -1,5 +1,6 @@
 -- The first byte of a book (document 02, 2026-05): where a book is not refused, the tests after the book's decide, as they do of the bare
 -- book, and all that is computed comes from the body, which is the bare book.
+use Rattle.std.proofs.Common.{Some}
 use mathlib.Core.Path.{◌≡◌, refl, sym, ap, ap₂, ◌∙◌, subst}
 use mathlib.Core.Bool.{Bool}
 use mathlib.Core.List.{List, [], ◌∷◌, ◌++◌}
@@ -9,7 +10,6 @@ use Rattle.lists.specs.Refusals.{first}
 use Rattle.cipher.specs.KeySize.{key_length}
 use Rattle.cipher.specs.Answers.{key_size, block_tests, text_tests, room_tests}
 use Rattle.cipher.specs.declared.size.KeySize.{KeySize}
-use Rattle.cipher.specs.declared.size.SizeFound.TheVariants.{Found}
 use Rattle.cipher.proofs.KeySizeLaws.{found_length, one_of}
 use Rattle.cipher.proofs.CheckLaws.{clear_taken}
 use Rattle.driver.specs.Driver.{book_tests, admit_answer, body_length, run_rounds_answer, seal_answer, spent, begun_over, begin_answer, kind_tests, finished_tests, full_tests, block_answer, last_answer}
@@ -22,7 +22,7 @@ use Rattle.claims.specs.FirstByte.{bare_book, bare_tests, bare_rounds, bare_seal
 use Rattle.claims.proofs.BuiltLaws.{built_named, built_is, built_body, built_found}
 
 -- a book of size z that is not refused
-module _ (bk : List ℕ) (z : KeySize) (found : admit_answer bk ≡ (0, Found z)) where
+module _ (bk : List ℕ) (z : KeySize) (found : admit_answer bk ≡ (0, Some z)) where
   -- without its first byte it is not refused either, so both ways the tests `ts` decide
   alike : {A : Type 0} (ts : List (Bool × ℕ)) (refuse : ℕ → A) (go : A) → first (book_tests bk ++ ts) refuse go ≡ first (bare_tests (drop 1 bk) ++ ts) refuse go
   alike ts refuse go =

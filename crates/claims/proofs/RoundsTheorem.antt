@@ -1,6 +1,7 @@
 -- Demand 3's rounds (document 01, "The model session of demand 3", "After n rounds"): the book's first n rounds on any 16 bytes,
 -- decoded by set n, are the first n rounds of LEA on those bytes decoded by set 0. Said of any rows of round keys and any valid
 -- chain.
+use Rattle.std.proofs.Common.{Some}
 use mathlib.Core.Path.{◌≡◌, ap, ◌∙◌}
 use mathlib.Core.List.{List}
 use Prim.Native.Nat.{ℕ, ◌≤◌}
@@ -12,7 +13,6 @@ use Rattle.cipher.specs.Chain.{chain_set, Chain}
 use Rattle.cipher.specs.Book.{book_body, Book}
 use Rattle.cipher.specs.Answers.{schedule_of, key_size}
 use Rattle.cipher.specs.declared.size.KeySize.{KeySize}
-use Rattle.cipher.specs.declared.size.SizeFound.TheVariants.{Found}
 use Rattle.cipher.proofs.BookMeaning.{book_rounds}
 use Rattle.driver.specs.Driver.{admit_answer}
 use Rattle.driver.proofs.AnswerLaws.{rounds_some}
@@ -20,7 +20,7 @@ use Rattle.claims.specs.Built.{Built, book_in, key_rounds}
 use Rattle.claims.specs.Demand3.{RoundsOfLea}
 use Rattle.claims.proofs.BuiltLaws.{built_chain, built_book, built_found}
 
-pub after_rounds : (z : KeySize) (rows : List (List ℕ)) (ch bk : List ℕ) → Chain z ch → Book (rounds z) rows ch (book_body bk) → admit_answer bk ≡ (0, Found z)
+pub after_rounds : (z : KeySize) (rows : List (List ℕ)) (ch bk : List ℕ) → Chain z ch → Book (rounds z) rows ch (book_body bk) → admit_answer bk ≡ (0, Some z)
     → (b : List ℕ) → length b ≡ 16 → (n : ℕ) → 1 ≤ n → n ≤ rounds z → RoundsOfLea rows ch bk n b
 after_rounds z rows ch bk v h found b l n p q =
     let e = rounds_some bk n b z found l q in

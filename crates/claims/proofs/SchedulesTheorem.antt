@@ -1,4 +1,5 @@
 -- The numbers of the schedules, the refusal of every other one, the rows that each gives, and what is known of any rows.
+use Rattle.std.proofs.Common.{None, Err}
 use mathlib.Core.Path.{◌≡◌, refl, ap, ◌∙◌}
 use mathlib.Core.List.{List, []}
 use Prim.Native.Nat.{ℕ, ◌%◌, ◌<◌}
@@ -9,23 +10,27 @@ use Rattle.lists.specs.Refusals.{first}
 use Rattle.words.specs.Rows.{blank}
 use Rattle.wf_lea.proofs.RowLaws.{row_at}
 use Rattle.cipher.specs.KeySize.{rounds}
-use Rattle.cipher.specs.Schedules.{schedule_found, Named, key_rows}
+use Rattle.cipher.specs.Schedules.{schedule_found, Named, kind_of, key_kind, key_rows}
 use Rattle.cipher.specs.Answers.{row_answer}
 use Rattle.cipher.specs.declared.size.KeySize.{KeySize}
+use Rattle.cipher.specs.declared.refusal.Refusal.TheVariants.{ScheduleNumber}
 use Rattle.cipher.specs.declared.schedules.Schedule.{Schedule}
 use Rattle.cipher.specs.declared.schedules.Schedule.TheVariants.{Lea, WfLea}
-use Rattle.cipher.specs.declared.schedules.ScheduleFound.TheVariants.{Unnumbered}
 use Rattle.cipher.proofs.SchedulesLaws.{numbered_0, numbered_1, unnumbered}
 use Rattle.cipher.proofs.AnswerLaws.{schedule_refused, key_taken, on_schedule}
-use Rattle.book.proofs.AnswerLaws.{built_schedule}
+use Rattle.book.proofs.AnswerLaws.{built_refused}
 use Rattle.archive.proofs.AnswerLaws.{check_34, open_34}
 use Rattle.claims.specs.Schedules.{Refused34, ScheduleLaws, AnyRows}
 use Rattle.claims.proofs.RoundsTheorem.{after_rounds}
 use Rattle.claims.proofs.SessionTheorem.{session}
 
 module _ (s : ℕ) (h : 1 < s) where
-  none : schedule_found s ≡ Unnumbered
+  none : schedule_found s ≡ None
   none = unnumbered s (λ e. omega arith) (λ e. omega arith)
+
+  unkind : (key : List ℕ) → Err ScheduleNumber ≡ key_kind s key
+  unfolding kind_of
+  unkind key = rw none
 
   no_row : (key : List ℕ) (l : ℕ) → row_answer s key l ≡ (34, blank)
   no_row key l = schedule_refused s key (λ k z. []) (λ n. (n, blank)) (λ k z. (0, get_or (key_rows k z key) (l % rounds z) [])) none
@@ -36,9 +41,9 @@ module _ (s : ℕ) (h : 1 < s) where
     deciphering = λ key b. on_schedule s key b _ none;
     after_rounds = λ key n b. on_schedule s key b _ none;
     round_keys = no_row;
-    building = λ key ch out. built_schedule 0 3 s key ch out _ _ none;
-    build_round = λ key ch l out. built_schedule 0 3 s key ch out _ _ none;
-    building_reading = λ key ch out. built_schedule 3 0 s key ch out _ _ none;
+    building = λ key ch out. built_refused 0 3 s key ch out _ _ ScheduleNumber (unkind key);
+    build_round = λ key ch l out. built_refused 0 3 s key ch out _ _ ScheduleNumber (unkind key);
+    building_reading = λ key ch out. built_refused 3 0 s key ch out _ _ ScheduleNumber (unkind key);
     opening = λ key set iv sealed out. open_34 s key set iv sealed out none;
     checking = λ key set message tag. check_34 s key set message tag none;
   }

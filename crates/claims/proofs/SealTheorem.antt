@@ -1,6 +1,7 @@
 -- Demand 3's sealed file (document 01, "The model session of demand 3"): what the driver seals of the pad's coding of a message,
 -- opened with the same key, set r and IV, gives the message and its length; of all refusals only 9 can be given on this way. Its blocks,
 -- decoded by set r, are the padded message enciphered in CBC.
+use Rattle.std.proofs.Common.{Some}
 use mathlib.Core.Path.{◌≡◌, sym, ap, ap₂, ◌∙◌}
 use mathlib.Core.Bool.{false}
 use mathlib.Core.List.{List, ◌++◌, map, flatten}
@@ -15,7 +16,6 @@ use Rattle.cipher.specs.Coding.{set_of, decoded}
 use Rattle.cipher.specs.Chain.{message_set, Chain}
 use Rattle.cipher.specs.Book.{book_body, Book}
 use Rattle.cipher.specs.Answers.{schedule_of, key_size, bad_text}
-use Rattle.cipher.specs.declared.size.SizeFound.TheVariants.{Found}
 use Rattle.cipher.proofs.SchedulesLaws.{key_words}
 use Rattle.cipher.proofs.AnswerLaws.{text_good}
 use Rattle.pad.specs.Padding.{padded_for_sealing, coded_text}
@@ -93,7 +93,7 @@ module _ (schedule : ℕ) (key ch out held : List ℕ) (built : Built schedule k
         ∙ ap (λ (k : ℕ). ((0, k), code_of u m ++ drop k o)) (sym code_length);
   }
 
-  found : admit_answer book ≡ (0, Found (key_size key))
+  found : admit_answer book ≡ (0, Some (key_size key))
   found = built_found schedule key ch out held built
 
   sealing_writes : Writes (seal_answer book iv (code_of u m)) (length (file_of u book iv m)) (file_of u book iv m)

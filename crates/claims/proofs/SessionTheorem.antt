@@ -1,5 +1,6 @@
 -- Demand 3's list of calls (document 01, "The model session of demand 3"): for every list of calls the driver's answers, from a
 -- session just begun with the book, are the model's. Said of any rows of round keys and any valid chain.
+use Rattle.std.proofs.Common.{Some}
 use mathlib.Core.Path.{◌≡◌, refl, sym, ap, ap₂, ◌∙◌}
 use mathlib.Core.Bool.{Bool, true, false}
 use mathlib.Core.List.{List, [], ◌∷◌}
@@ -16,7 +17,6 @@ use Rattle.cipher.specs.Chain.{message_set, chain_set, Chain}
 use Rattle.cipher.specs.Book.{book_body, group_key, Book}
 use Rattle.cipher.specs.Answers.{schedule_of, key_size}
 use Rattle.cipher.specs.declared.size.KeySize.{KeySize}
-use Rattle.cipher.specs.declared.size.SizeFound.TheVariants.{Found}
 use Rattle.cipher.proofs.CodingLaws.{coded_decoded}
 use Rattle.cipher.proofs.BookMeaning.{book_start}
 use Rattle.driver.specs.Driver.{admit_answer, pass, begin_answer, block_answer, last_answer}
@@ -36,7 +36,7 @@ unfolding group_key kind_key
 kind_key_lem E zero = refl
 kind_key_lem E (suc k) = refl
 
-module _ (z : KeySize) (rows : List (List ℕ)) (ch bk : List ℕ) (v : Chain z ch) (h : Book (rounds z) rows ch (book_body bk)) (found : admit_answer bk ≡ (0, Found z)) where
+module _ (z : KeySize) (rows : List (List ℕ)) (ch bk : List ℕ) (v : Chain z ch) (h : Book (rounds z) rows ch (book_body bk)) (found : admit_answer bk ≡ (0, Some z)) where
   abbrev E : List ℕ → List ℕ
   E = first_rounds rows (rounds z)
 

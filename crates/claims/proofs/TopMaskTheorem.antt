@@ -1,5 +1,6 @@
 -- No output depends on the masks at half byte 0 (document 02, 2026-06): books that differ in their top entries alone, and there not in the
 -- lower four bits, have the same tests, start, rounds and folds, and so the same answers.
+use Rattle.std.proofs.Common.{None}
 use mathlib.Core.Path.{◌≡◌, refl, sym, ap, ap₂, ◌∙◌, subst}
 use mathlib.Core.Bool.{cond, not}
 use mathlib.Core.List.{List, [], ◌∷◌, ◌++◌, flatten}
@@ -26,7 +27,6 @@ use Rattle.reading.specs.Shown.{read_block, read_text}
 use Rattle.reading.proofs.ReadingBookLaw.{reading_made}
 use Rattle.driver.specs.Driver.{book_tests, admit_answer, rounds_of, run_round_answer, run_rounds_answer, pass, passed_from, seal_answer, fresh, spent, moved, closed, begun_over, begin_answer}
 use Rattle.driver.specs.Driver.{kind_tests, finished_tests, full_tests, block_answer, last_answer}
-use Rattle.cipher.specs.declared.size.SizeFound.TheVariants.{Unknown}
 use Rattle.driver.specs.declared.session.Session.{Session}
 use Rattle.reader.specs.Answers.{reading_book_tests, reading_rounds_of, read_answer}
 use Rattle.claims.specs.Model.{Call, block_call, last_call}
@@ -123,7 +123,7 @@ module _ (bk bk' : List ℕ) (h : ButTops TopEntry bk bk') where
   -- ---- the operations
   admitted_same : admit_answer bk ≡ admit_answer bk'
   unfolding admit_answer
-  admitted_same = (λ i. first (tests_same i) (λ q. (q, Unknown)) (0, size_of_book (h.size i)))
+  admitted_same = (λ i. first (tests_same i) (λ q. (q, None)) (0, size_of_book (h.size i)))
 
   rounds_answer_lem : (n : ℕ) (b : List ℕ) → run_rounds_answer bk n b ≡ run_rounds_answer bk' n b
   unfolding run_rounds_answer

@@ -1,4 +1,5 @@
 -- The works makes its own chains (specs/Works): what an answer 0 of the chain maker tells, and that the builders take what is made.
+use Rattle.std.proofs.Common.{Some}
 use mathlib.Core.Path.{◌≡◌, refl, sym, ap, ◌∙◌}
 use mathlib.Core.Bool.{Bool}
 use mathlib.Core.List.{List, ◌++◌}
@@ -15,7 +16,6 @@ use Rattle.cipher.specs.KeySize.{rounds, key_length, chain_length, size_of_key}
 use Rattle.cipher.specs.Chain.{Chain, LoneSet, set_tests}
 use Rattle.cipher.specs.Answers.{key_size, chain_checked}
 use Rattle.cipher.specs.declared.size.KeySize.{KeySize}
-use Rattle.cipher.specs.declared.size.SizeFound.TheVariants.{Found}
 use Rattle.cipher.proofs.ChainTests.{set_tested}
 use Rattle.cipher.proofs.ChainRefusals.{check_valid}
 use Rattle.cipher.proofs.CheckLaws.{Numbered}
@@ -72,7 +72,7 @@ module _ (key random out held : List ℕ) (k : ℕ) (made : Made key random out 
   clear : Clear (make_tests (length key) random out)
   clear = (parts (make_tests (length key) random out) numbered sealing key random out held k made).0
 
-  made_size : size_of_key (length key) ≡ Found (key_size key)
+  made_size : size_of_key (length key) ≡ Some (key_size key)
   unfolding make_tests
   made_size = size_known (length key) clear.0
 
@@ -104,7 +104,7 @@ module _ (key set random out held : List ℕ) (k : ℕ) (made : ReadingMade key 
   reading_clear : Clear (make_reading_tests (length key) set random out)
   reading_clear = (parts (make_reading_tests (length key) set random out) reading_numbered (reading set) key random out held k made).0
 
-  reading_size : size_of_key (length key) ≡ Found (key_size key)
+  reading_size : size_of_key (length key) ≡ Some (key_size key)
   unfolding make_reading_tests
   reading_size = size_known (length key) reading_clear.0
 

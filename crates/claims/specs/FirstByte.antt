@@ -2,7 +2,7 @@
 -- A book without its first byte is called bare here; it is document 01's. The driver's operations with a bare book are put together as
 -- document 01 has them ("Pad, driver, archive", "Refusals from the input" and "from the state"), with its three lengths; tables,
 -- passes, sessions and the other refusals are the driver's own definitions, which know of no first byte.
-use Rattle.std.specs.Prelude.{◌≡◌, Bool, cond, not, ◌||◌, List, [], ◌∷◌, ◌++◌, ℕ, suc, eqb, leb, length, drop}
+use Rattle.std.specs.Prelude.{◌≡◌, Bool, cond, not, ◌||◌, List, [], ◌∷◌, ◌++◌, ℕ, suc, eqb, leb, length, drop, Some}
 use Rattle.lists.specs.Blocks.{zeros}
 use Rattle.lists.specs.Refusals.{first}
 use Rattle.cipher.specs.Schedules.{key_rows}
@@ -10,7 +10,6 @@ use Rattle.cipher.specs.Tables.{table_rounds}
 use Rattle.cipher.specs.Book.{book_of, start_of, round_at}
 use Rattle.cipher.specs.Answers.{schedule_of, key_size, block_tests, text_tests, room_tests}
 use Rattle.cipher.specs.declared.size.KeySize.{KeySize}
-use Rattle.cipher.specs.declared.size.SizeFound.TheVariants.{Found}
 use Rattle.driver.specs.Driver.{admit_answer, rounds_of, run_rounds_answer, pass, sealed, seal_answer}
 use Rattle.driver.specs.Driver.{fresh, spent, moved, closed, begun_over, kind_tests, finished_tests, full_tests}
 use Rattle.driver.specs.declared.session.Session.{Session}
@@ -78,4 +77,4 @@ pub record FirstByteLaws : Type 0 where
   -- and tags and sealed files by it are what document 01 has of the bare one
   pub like_bare : (schedule : ℕ) (key ch out held : List ℕ) → Built schedule key ch out held → LikeBare (book_in key held) (bare_book schedule key ch)
   -- so it is of every book that is admitted, whatever its tables
-  pub alike : (bk : List ℕ) (z : KeySize) → admit_answer bk ≡ (0, Found z) → LikeBare bk (drop 1 bk)
+  pub alike : (bk : List ℕ) (z : KeySize) → admit_answer bk ≡ (0, Some z) → LikeBare bk (drop 1 bk)

@@ -1,6 +1,6 @@
 -- Pads with the one-way schedule (document 02, 2026-07): 0 is LEA's own schedule, 1 is WF-LEA's, and every other number is refused by 34,
 -- before all else, in every operation that takes a key. And what is known of tables is known of any rows.
-use Rattle.std.specs.Prelude.{◌≡◌, List, [], ℕ, ◌≤◌, ◌<◌, length, get_or}
+use Rattle.std.specs.Prelude.{◌≡◌, List, [], ℕ, ◌≤◌, ◌<◌, length, get_or, Some}
 use Rattle.lists.specs.Blocks.{zeros, block_length}
 use Rattle.words.specs.Rows.{blank}
 use Rattle.wf_lea.specs.WfLea.{row}
@@ -11,9 +11,7 @@ use Rattle.cipher.specs.Chain.{Chain, message_set, chain_set}
 use Rattle.cipher.specs.Book.{Book, book_body}
 use Rattle.cipher.specs.Answers.{encipher_answer, decipher_answer, rounds_answer, row_answer}
 use Rattle.cipher.specs.declared.size.KeySize.{KeySize}
-use Rattle.cipher.specs.declared.size.SizeFound.TheVariants.{Found}
 use Rattle.cipher.specs.declared.schedules.Schedule.TheVariants.{Lea, WfLea}
-use Rattle.cipher.specs.declared.schedules.ScheduleFound.TheVariants.{Numbered}
 use Rattle.book.specs.Answers.{build_answer, build_round_answer}
 use Rattle.reading_book.specs.Answers.{build_reading_answer}
 use Rattle.driver.specs.Driver.{admit_answer}
@@ -35,15 +33,15 @@ pub record Refused34 (s : ℕ) : Type 0 where
   pub checking : (key set message tag : List ℕ) → check_answer s key set message tag ≡ (34, 0)
 
 pub record ScheduleLaws : Type 0 where
-  pub numbers : (schedule_found 0 ≡ Numbered Lea) × (schedule_found 1 ≡ Numbered WfLea)
+  pub numbers : (schedule_found 0 ≡ Some Lea) × (schedule_found 1 ≡ Some WfLea)
   pub others : (s : ℕ) → 1 < s → Refused34 s
   -- the round keys of round l of a key: by 0 as LEA's own schedule has them, by 1 as WF-LEA has them
-  pub lea_row : (z : KeySize) (key : List ℕ) → size_of_key (length key) ≡ Found z → (l : ℕ) → l < rounds z → row_answer 0 key l ≡ (0, get_or (schedule z key) l [])
-  pub wf_lea_row : (z : KeySize) (key : List ℕ) → size_of_key (length key) ≡ Found z → (l : ℕ) → l < rounds z → row_answer 1 key l ≡ (0, row key l)
+  pub lea_row : (z : KeySize) (key : List ℕ) → size_of_key (length key) ≡ Some z → (l : ℕ) → l < rounds z → row_answer 0 key l ≡ (0, get_or (schedule z key) l [])
+  pub wf_lea_row : (z : KeySize) (key : List ℕ) → size_of_key (length key) ≡ Some z → (l : ℕ) → l < rounds z → row_answer 1 key l ≡ (0, row key l)
 
 -- what is known of tables holds of all lists of rows, whichever schedule supplies them, if any does: the rounds, and every list of calls
 pub record AnyRows : Type 0 where
-  pub after_rounds : (z : KeySize) (rows : List (List ℕ)) (ch bk : List ℕ) → Chain z ch → Book (rounds z) rows ch (book_body bk) → admit_answer bk ≡ (0, Found z)
+  pub after_rounds : (z : KeySize) (rows : List (List ℕ)) (ch bk : List ℕ) → Chain z ch → Book (rounds z) rows ch (book_body bk) → admit_answer bk ≡ (0, Some z)
       → (b : List ℕ) → length b ≡ block_length → (n : ℕ) → 1 ≤ n → n ≤ rounds z → RoundsOfLea rows ch bk n b
-  pub session : (z : KeySize) (rows : List (List ℕ)) (ch bk : List ℕ) → Chain z ch → Book (rounds z) rows ch (book_body bk) → admit_answer bk ≡ (0, Found z)
+  pub session : (z : KeySize) (rows : List (List ℕ)) (ch bk : List ℕ) → Chain z ch → Book (rounds z) rows ch (book_body bk) → admit_answer bk ≡ (0, Some z)
       → (cs : List Call) → driver_answers bk cs ≡ model_answers (first_rounds rows (rounds z)) (message_set ch) (chain_set ch (rounds z)) cs

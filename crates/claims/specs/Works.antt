@@ -1,6 +1,6 @@
 -- The works makes its own chains (document 02, 2026-03): whatever the random bytes, a chain that was made is one that the builder takes, and
 -- its book does all that demand 3 asks; and a reading chain that was made from the archive's set goes with it, as 2026-01 wants it.
-use Rattle.std.specs.Prelude.{◌≡◌, List, ℕ, ◌≤◌, length, take}
+use Rattle.std.specs.Prelude.{◌≡◌, List, ℕ, ◌≤◌, length, take, Some}
 use Rattle.lists.specs.Blocks.{Bytes, block_length}
 use Rattle.cipher.specs.KeySize.{book_length, chain_length}
 use Rattle.cipher.specs.Lengths.{longest_message}
@@ -8,7 +8,6 @@ use Rattle.cipher.specs.Schedules.{schedule_found}
 use Rattle.cipher.specs.Chain.{Chain}
 use Rattle.cipher.specs.Answers.{key_size, chain_checked}
 use Rattle.cipher.specs.declared.schedules.Schedule.{Schedule}
-use Rattle.cipher.specs.declared.schedules.ScheduleFound.TheVariants.{Numbered}
 use Rattle.reading.specs.Chain.{ReadingChain}
 use Rattle.reading.specs.Book.{reading_book_length}
 use Rattle.reading_book.specs.Answers.{reading_chain_checked}
@@ -32,7 +31,7 @@ chain_in key held = take (chain_length (key_size key)) held
 pub record ChainTaken (key ch : List ℕ) : Type 0 where
   pub valid : Chain (key_size key) ch
   pub checked : chain_checked (length key) ch ≡ 0
-  pub books : (schedule : ℕ) (k : Schedule) → schedule_found schedule ≡ Numbered k → (out : List ℕ) → book_length (key_size key) ≤ length out
+  pub books : (schedule : ℕ) (k : Schedule) → schedule_found schedule ≡ Some k → (out : List ℕ) → book_length (key_size key) ≤ length out
       → BuiltDemand3 schedule key ch out
 
 -- the same of a reading chain, whose set 0 is the set s, and of which by either schedule a reading book is built that shows what the archive opens
@@ -40,7 +39,7 @@ pub record ReadingTaken (key s ch : List ℕ) : Type 0 where
   pub valid : ReadingChain (key_size key) ch
   pub checked : reading_chain_checked (length key) ch ≡ 0
   pub first : first_set ch ≡ s
-  pub books : (schedule : ℕ) (k : Schedule) → schedule_found schedule ≡ Numbered k → (out : List ℕ) → reading_book_length (key_size key) ≤ length out
+  pub books : (schedule : ℕ) (k : Schedule) → schedule_found schedule ≡ Some k → (out : List ℕ) → reading_book_length (key_size key) ≤ length out
       → BuiltShows schedule key ch out
 
 pub record WorksLaws : Type 0 where

@@ -3,4 +3,5 @@ pub mod CodingTheorem
 pub mod DrawCounts
 pub mod NumberLaws
 pub mod DrawTurns
+pub mod SourceLaws
 pub mod Example

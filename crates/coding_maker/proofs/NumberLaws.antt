@@ -1,23 +1,20 @@
 -- The table of what each byte stands for: its rows, one turn of the loops that fill it, and what a look-up in it says.
-use mathlib.Core.Path.{◌≡◌, refl, sym, ap, ◌∙◌}
+use mathlib.Core.Path.{◌≡◌, sym, ap, ◌∙◌}
 use mathlib.Core.List.{List, ◌++◌}
-use Prim.Native.Nat.{ℕ, ◌+◌, ◌-◌, ◌*◌, ◌%◌, ◌≤◌, ◌<◌}
-use native.Mathlib.Nat.{mod-lt, mod-eq_of_lt, add-mod_right, add-sub_cancel_left}
+use Prim.Native.Nat.{ℕ, ◌+◌, ◌-◌, ◌*◌, ◌%◌, ◌≤◌, ◌<◌, zero-le}
+use native.Mathlib.Nat.{mod-lt, add-mod_right}
 use native.Mathlib.Decide.{dec_lt}
 use native.Mathlib.Omega.{arith}
 use borrow.Author.Tests.{le-leb, lt-leb}
-use lib.ListN.{length, get_or, take, drop, length-append, length-drop, replicate, get_or-replicate, get_or-append}
-use lib.Seq.{ext_get_or, get_or-drop, get_or-take}
+use lib.ListN.{length, get_or, drop, length-append, length-drop, get_or-append}
+use lib.Seq.{ext_get_or, get_or-drop}
 use Rattle.lists.specs.Tabulation.{tab, chunks}
 use Rattle.lists.proofs.TabulationLaws.{length_tab, get_or_tab}
-use Rattle.lists.proofs.ChunkLaws.{length_chunks, get_or_chunks, get_or_second}
+use Rattle.lists.proofs.ChunkLaws.{get_or_chunks, get_or_second}
 use Rattle.coding_maker.specs.Draw.{limit}
 use Rattle.coding_maker.specs.Numbers.{stands_for, number_table}
 
 -- ---- remainders
-
-pub remainder_first : (k b : ℕ) → b ≤ k → b ≡ b % (k + 1)
-remainder_first k b h = sym (mod-eq_of_lt {n = b} {m = k + 1} (omega arith))
 
 pub remainder_again : (k b : ℕ) → k < b → (b - (k + 1)) % (k + 1) ≡ b % (k + 1)
 remainder_again k b h =
@@ -87,18 +84,13 @@ row_is k d l held = ext_get_or 0 (remainders k ++ drop (limit k) d) (number_row 
         ∙ sym (stands_over k b (omega arith))
         ∙ sym (get_or_tab 256 (stands_for k) b h)
 
--- behind the rows that are written, the table holds the mark
-pub blank_part : (k a : ℕ) (d₀ d : List ℕ) → d₀ ≡ replicate {A = ℕ} 4096 16 → d ≡ chunks k number_row ++ drop a d₀ → a ≡ k * 256 → k < 16
-    → (i : ℕ) → i < 256 → get_or (take (a + 256 - a) (drop a d)) i 0 ≡ 16
-blank_part k a d₀ d e₀ e w hk i hi =
-    rw (add-sub_cancel_left a 256)
-    (get_or-take 256 (drop a d) i 0 hi
-    ∙ get_or-drop a d i 0
-    ∙ ap (λ (x : List ℕ). get_or x (a + i) 0) e
-    ∙ get_or_second (chunks k number_row) (drop a d₀) a i (a + i) (length_chunks number_row 256 length_row k ∙ sym w) refl
-    ∙ get_or-drop a d₀ i 0
-    ∙ ap (λ (x : List ℕ). get_or x (a + i) 0) e₀
-    ∙ get_or-replicate {A = ℕ} 4096 (a + i) 16 0 (omega arith))
+-- what a row holds that is filled with the mark
+pub filled : (n : ℕ) (d : List ℕ) → n ≡ 256 → ((k v : ℕ) → 0 ≤ k → k < n - 1 → get_or d k v ≡ 16) → ((v : ℕ) → get_or d (n - 1) v ≡ 16) → (i : ℕ) → i < 256 → get_or d i 0 ≡ 16
+filled n d e low last i h = go (dec_lt i (n - 1))
+  where
+    go : Dec (i < n - 1) → get_or d i 0 ≡ 16
+    go (yes b) = low i 0 zero-le b
+    go (no b) = let f : i ≡ n - 1 = omega arith in ap (λ (k : ℕ). get_or d k 0) f ∙ last 0
 
 -- byte b in the row of k
 pub number_at : (k b : ℕ) → k < 16 → b < 256 → get_or number_table (256 * k + b) 0 ≡ stands_for k b
@@ -106,7 +98,3 @@ unfolding number_table
 number_at k b hk hb =
     let e : 256 * k + b ≡ k * 256 + b = omega arith in
     ap (λ (i : ℕ). get_or (chunks 16 number_row) i 0) e ∙ get_or_chunks number_row 256 length_row 16 k b hk hb ∙ get_or_tab 256 (stands_for k) b hb
-
-pub length_table : length number_table ≡ 4096
-unfolding number_table
-length_table = length_chunks number_row 256 length_row 16

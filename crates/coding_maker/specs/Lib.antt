@@ -3,3 +3,4 @@ pub mod Numbers
 pub mod Parts
 pub mod Laws
 pub mod Examples
+pub mod Source

@@ -1,13 +1,13 @@
 // Drawing one coding from random bytes (document 02, 2026-03). Where the bytes have ended, zeros are
-// read on; that the bytes suffice is known before anything is written. Each function that draws gives
-// the place of the first byte that is left. A draw goes past the end by one byte for each number at most;
-// the bounds in the contracts leave room for that, so that no sum is too large for a machine word.
-ghost use Rattle.std.specs.Prelude.{◌≡◌, ◌+◌, ◌≤◌, ◌<◌, length, drop};
+// read on; that the bytes suffice is known before anything is written. A draw goes past the end by one
+// byte for each number at most; the bounds in the contracts leave room for that, so that no sum is too
+// large for a machine word.
+ghost use Rattle.std.specs.Prelude.{◌≡◌, ◌+◌, ◌≤◌, ◌<◌, length, get_or, drop};
 ghost use Rattle.cipher.specs.Lengths.{coding_length};
 ghost use Rattle.coding_maker.specs.Draw as D;
-ghost use Rattle.coding_maker.specs.Numbers.{number_table};
+ghost use Rattle.coding_maker.specs.Source.{rest, past, Near};
 
-use crate::numbers::SKIPPED;
+use crate::numbers::{Numbers, SKIPPED};
 use cipher::invert::wide;
 use cipher::lengths;
 
@@ -18,41 +18,103 @@ struct Drawn {
     at: usize,
 }
 
-// A number from 0 to k: bytes are skipped until one stands for a number.
-fn draw_number(table: &[u8], random: &[u8], start: usize, k: usize) -> Drawn
-    requires { (k < 16) × (table.now ≡ number_table) × (start ≤ length random.now + 2000000) }
-    ensures { (result.number ≡ D.chosen k (drop start random.now)) × (result.at ≡ start + D.drawn k (drop start random.now)) }
-{
-    let mut at = start;
-    while at < random.len() {
-        let number = table[lengths::BYTES * k + wide(random[at])];
-        if number < SKIPPED {
-            return Drawn {
-                number: wide(number),
-                at: at + 1,
-            };
-        }
-        at += 1;
-    }
-    Drawn {
-        number: 0,
-        at: at + 1,
-    }
+// Random bytes, what each stands for, and the place of the first that is left, which each draw moves on.
+#[derive(Clone, Copy)]
+pub struct Source<'a> {
+    pub numbers: &'a Numbers,
+    pub random: &'a [u8],
+    pub at: usize,
 }
 
-// The draws of a coding, without the coding.
-pub fn coding_draws(table: &[u8], random: &[u8], start: usize) -> usize
-    requires { (table.now ≡ number_table) × (start ≤ length random.now + 1000000) }
-    ensures { result ≡ start + D.coding_draws (drop start random.now) }
-{
-    let mut at = start;
-    let mut k: usize = 15;
-    while 0 < k {
-        let d = draw_number(table, random, at, k);
-        at = d.at;
-        k -= 1;
+impl<'a> Source<'a> {
+    pub fn new(numbers: &'a Numbers, random: &'a [u8]) -> Source<'a>
+        ensures { (result.at ≡ 0) × (rest result ≡ random.now) }
+    {
+        Source {
+            numbers,
+            random,
+            at: 0,
+        }
     }
-    at
+
+    // How many bytes were drawn.
+    pub fn drawn(&self) -> usize
+        ensures { result ≡ self.now.at }
+    {
+        self.at
+    }
+
+    // The next byte, or 0 behind the end.
+    pub fn byte(&mut self) -> u8
+        requires { Near 3000000 self.old }
+        ensures { (result ≡ get_or self.old.random.now self.old.at 0) × (self.new ≡ past (λ s. 1) self.old) }
+    {
+        let byte = self.random.get(self.at).copied().unwrap_or(0);
+        self.at += 1;
+        byte
+    }
+
+    // The next n bytes, unread.
+    pub fn skip(&mut self, n: usize)
+        requires { (n ≤ 1000000) × Near 2000000 self.old }
+        ensures { self.new ≡ past (λ s. n) self.old }
+    {
+        self.at += n;
+    }
+
+    // A number from 0 to k: bytes are skipped until one stands for a number.
+    fn draw_number(&self, k: usize) -> Drawn
+        requires { (k < 16) × Near 2000000 self.now }
+        ensures { (result.number ≡ D.chosen k (rest self.now)) × (result.at ≡ self.now.at + D.drawn k (rest self.now)) }
+    {
+        for at in self.at..self.random.len() {
+            let number = self.numbers.stands_for(k, self.random[at]);
+            if number < SKIPPED {
+                return Drawn {
+                    number: wide(number),
+                    at: at + 1,
+                };
+            }
+        }
+        Drawn {
+            number: 0,
+            at: self.at.max(self.random.len()) + 1,
+        }
+    }
+
+    fn number(&mut self, k: usize) -> usize
+        requires { (k < 16) × Near 2000000 self.old }
+        ensures { (result ≡ D.chosen k (rest self.old)) × (self.new ≡ past (D.drawn k) self.old) }
+    {
+        let drawn = self.draw_number(k);
+        self.at = drawn.at;
+        drawn.number
+    }
+
+    // The draws of a coding, without the coding.
+    pub fn coding_draws(&mut self)
+        requires { Near 1000000 self.old }
+        ensures { self.new ≡ past D.coding_draws self.old }
+    {
+        for k in (1..lengths::CODING).rev() {
+            self.number(k);
+        }
+    }
+
+    // A coding drawn: each place from 15 down to 1 is exchanged with one that is not behind it.
+    pub fn draw_coding(&mut self, out: &mut [u8])
+        requires { Near 1000000 self.old × (length out.old ≡ coding_length) }
+        ensures { (self.new ≡ past D.coding_draws self.old) × (out.new ≡ D.coding_from (rest self.old)) }
+    {
+        unshuffle(out);
+        for place in (1..out.len()).rev() {
+            let other = self.number(place);
+            // Not by out.swap: that was tried, and drawing a coding took more than twice its time.
+            let x = out[place];
+            out[place] = out[other];
+            out[other] = x;
+        }
+    }
 }
 
 // Places 0 to 15 hold 0 to 15.
@@ -60,27 +122,7 @@ fn unshuffle(out: &mut [u8])
     requires { length out.old ≡ coding_length }
     ensures { out.new ≡ D.unshuffled }
 {
-    for v in 0..lengths::CODING {
-        out[v] = v as u8;
+    for (v, place) in out.iter_mut().enumerate() {
+        *place = v as u8;
     }
-}
-
-// A coding drawn: each place from 15 down to 1 is exchanged with one that is not behind it.
-pub fn draw_coding(table: &[u8], random: &[u8], start: usize, out: &mut [u8]) -> usize
-    requires { (table.now ≡ number_table) × (start ≤ length random.now + 1000000) × (length out.old ≡ coding_length) }
-    ensures { (result ≡ start + D.coding_draws (drop start random.now)) × (out.new ≡ D.coding_from (drop start random.now)) }
-{
-    unshuffle(out);
-    let mut at = start;
-    let mut place: usize = 15;
-    while 0 < place {
-        let d = draw_number(table, random, at, place);
-        let other = d.number;
-        let x = out[place];
-        out[place] = out[other];
-        out[other] = x;
-        at = d.at;
-        place -= 1;
-    }
-    at
 }

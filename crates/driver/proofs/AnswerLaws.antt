@@ -3,9 +3,11 @@
 use mathlib.Core.Path.{◌≡◌, sym, ap, ap₂, ◌∙◌}
 use mathlib.Core.Bool.{true, false, cond, not}
 use mathlib.Core.List.{List, [], ◌++◌, flatten}
-use Prim.Native.Nat.{ℕ, suc, ◌+◌, ◌*◌, ◌/◌, ◌≤◌, ◌<◌}
+use Prim.Native.Nat.{ℕ, suc, min, ◌+◌, ◌*◌, ◌/◌, ◌≤◌, ◌<◌}
 use native.Mathlib.Numerals.{add-one}
 use native.Mathlib.Omega.{arith}
+use mathlib.Core.Logic.{⊎_elim}
+use Rattle.std.proofs.lemmas.Bool.{cases_lt}
 use borrow.Author.Tests.{eq-eqb, ne_eqb, le-leb, lt-leb, lt-ltb, le-ltb}
 use lib.Dec.{eqb, leb, ltb}
 use lib.ListN.{length, take, drop}
@@ -21,7 +23,7 @@ use Rattle.cipher.specs.Refusal.{number_of}
 use Rattle.cipher.specs.declared.refusal.Refusal.{Refusal}
 use Rattle.cipher.specs.Answers.{block_tests, bad_text, text_tests, room_tests}
 use Rattle.cipher.specs.declared.size.KeySize.{KeySize}
-use Rattle.cipher.specs.declared.size.SizeFound.TheVariants.{Found, Unknown}
+use Rattle.std.proofs.Common.{Some, None}
 use Rattle.cipher.proofs.AnswerLaws.{at_most, at_most_all, block_refused, block_taken_lem, text_known, text_refused, text_taken, room_refused, room_taken}
 use Rattle.driver.specs.Driver.{admit_answer, rounds_of, run_round_answer, run_rounds_answer, pass, passed_from, sealed, seal_answer}
 use Rattle.driver.specs.Driver.{fresh, spent, moved, closed, begun_over, begin_answer, kind_tests, finished_tests, full_tests, block_answer, last_answer}
@@ -58,11 +60,11 @@ module _ (bk : List ℕ) (n : ℕ) (b : List ℕ) where
   result : ℕ × List ℕ
   result = (0, table_rounds (round_at (book_body bk)) (cond (leb n (rounds_of (book_body bk))) n (rounds_of (book_body bk))) b)
 
-  pub rounds_no_book : (q : Refusal) → admit_answer bk ≡ (number_of q, Unknown) → run_rounds_answer bk n b ≡ (number_of q, zeros)
+  pub rounds_no_book : (q : Refusal) → admit_answer bk ≡ (number_of q, None) → run_rounds_answer bk n b ≡ (number_of q, zeros)
   unfolding run_rounds_answer result
   rounds_no_book q e = book_refused bk (block_tests b) (λ q. (q, zeros)) result q e
 
-  module _ (z : KeySize) (e : admit_answer bk ≡ (0, Found z)) where
+  module _ (z : KeySize) (e : admit_answer bk ≡ (0, Some z)) where
     pub rounds_7 : (length b ≡ 16 → ⊥) → run_rounds_answer bk n b ≡ (7, zeros)
     unfolding run_rounds_answer result
     rounds_7 h = book_taken bk (block_tests b) (λ q. (q, zeros)) result z e ∙ block_refused b [] (λ q. (q, zeros)) result h
@@ -81,6 +83,12 @@ module _ (bk : List ℕ) (n : ℕ) (b : List ℕ) where
       pub rounds_all : rounds z < n → run_rounds_answer bk n b ≡ (0, table_rounds (round_at (book_body bk)) (rounds z) b)
       rounds_all l = rounds_taken ∙ ap (λ (k : ℕ). (0, table_rounds (round_at (book_body bk)) k b)) (at_most_all n (rounds z) l)
 
+      -- as the code counts them
+      pub rounds_made : (k : ℕ) → k ≡ min n (rounds z) → run_rounds_answer bk n b ≡ (0, table_rounds (round_at (book_body bk)) k b)
+      rounds_made k d =
+          ⊎_elim (λ (l : rounds z < n). rounds_all l ∙ ap (λ (j : ℕ). (0, table_rounds (round_at (book_body bk)) j b)) (omega arith))
+          (λ (l : n ≤ rounds z). rounds_some l ∙ ap (λ (j : ℕ). (0, table_rounds (round_at (book_body bk)) j b)) (omega arith)) (cases_lt (rounds z) n)
+
 -- ---- sealing
 
 module _ (bk iv cs out : List ℕ) where
@@ -90,11 +98,11 @@ module _ (bk iv cs out : List ℕ) where
   left : ℕ → (ℕ × ℕ) × List ℕ
   left q = ((q, 0), out)
 
-  pub seal_no_book : (q : Refusal) → admit_answer bk ≡ (number_of q, Unknown) → seal_answer bk iv cs out ≡ ((number_of q, 0), out)
+  pub seal_no_book : (q : Refusal) → admit_answer bk ≡ (number_of q, None) → seal_answer bk iv cs out ≡ ((number_of q, 0), out)
   unfolding seal_answer sealed_into left
   seal_no_book q e = book_refused bk (block_tests iv ++ (text_tests cs ++ room_tests (length cs) out)) left sealed_into q e
 
-  module _ (z : KeySize) (e : admit_answer bk ≡ (0, Found z)) where
+  module _ (z : KeySize) (e : admit_answer bk ≡ (0, Some z)) where
     booked : seal_answer bk iv cs out ≡ first (block_tests iv ++ (text_tests cs ++ room_tests (length cs) out)) left sealed_into
     unfolding seal_answer sealed_into left
     booked = book_taken bk (block_tests iv ++ (text_tests cs ++ room_tests (length cs) out)) left sealed_into z e
@@ -136,15 +144,15 @@ module _ (bk iv cs out : List ℕ) where
 
 -- ---- beginning
 
-pub over_no_book : (bk : List ℕ) (s : Session) → (q : Refusal) → admit_answer bk ≡ (number_of q, Unknown) → begun_over bk s ≡ (number_of q, s)
+pub over_no_book : (bk : List ℕ) (s : Session) → (q : Refusal) → admit_answer bk ≡ (number_of q, None) → begun_over bk s ≡ (number_of q, s)
 unfolding begun_over
 over_no_book bk s q e = book_refused bk [] (λ q. (q, s)) (0, fresh (start_of (book_body bk))) q e
 
-pub over_done : (bk : List ℕ) (s : Session) (z : KeySize) → admit_answer bk ≡ (0, Found z) → begun_over bk s ≡ (0, fresh (start_of (book_body bk)))
+pub over_done : (bk : List ℕ) (s : Session) (z : KeySize) → admit_answer bk ≡ (0, Some z) → begun_over bk s ≡ (0, fresh (start_of (book_body bk)))
 unfolding begun_over first
 over_done bk s z e = book_taken bk [] (λ q. (q, s)) (0, fresh (start_of (book_body bk))) z e
 
-pub begin_done : (bk : List ℕ) (z : KeySize) → admit_answer bk ≡ (0, Found z) → begin_answer bk ≡ (0, fresh (start_of (book_body bk)))
+pub begin_done : (bk : List ℕ) (z : KeySize) → admit_answer bk ≡ (0, Some z) → begin_answer bk ≡ (0, fresh (start_of (book_body bk)))
 unfolding begin_answer
 begin_done bk z e = over_done bk spent z e
 
@@ -157,11 +165,11 @@ module _ (bk m : List ℕ) (s : Session) where
   next : ℕ × Session
   next = (0, moved s (pass (book_body bk) 0 s.block m))
 
-  pub block_no_book : (q : Refusal) → admit_answer bk ≡ (number_of q, Unknown) → block_answer bk m s ≡ (number_of q, s)
+  pub block_no_book : (q : Refusal) → admit_answer bk ≡ (number_of q, None) → block_answer bk m s ≡ (number_of q, s)
   unfolding block_answer kept next
   block_no_book q e = book_refused bk (block_tests m ++ (finished_tests s ++ full_tests s)) kept next q e
 
-  module _ (z : KeySize) (e : admit_answer bk ≡ (0, Found z)) where
+  module _ (z : KeySize) (e : admit_answer bk ≡ (0, Some z)) where
     block_booked : block_answer bk m s ≡ first (block_tests m ++ (finished_tests s ++ full_tests s)) kept next
     unfolding block_answer kept next
     block_booked = book_taken bk (block_tests m ++ (finished_tests s ++ full_tests s)) kept next z e
@@ -206,11 +214,11 @@ module _ (bk m : List ℕ) (k : ℕ) (s : Session) where
   tagged : (ℕ × List ℕ) × Session
   tagged = ((0, pass (book_body bk) (suc k) s.block m), closed s)
 
-  pub last_no_book : (q : Refusal) → admit_answer bk ≡ (number_of q, Unknown) → last_answer bk m k s ≡ ((number_of q, zeros), s)
+  pub last_no_book : (q : Refusal) → admit_answer bk ≡ (number_of q, None) → last_answer bk m k s ≡ ((number_of q, zeros), s)
   unfolding last_answer without tagged
   last_no_book q e = book_refused bk (block_tests m ++ (kind_tests k ++ finished_tests s)) without tagged q e
 
-  module _ (z : KeySize) (e : admit_answer bk ≡ (0, Found z)) where
+  module _ (z : KeySize) (e : admit_answer bk ≡ (0, Some z)) where
     last_booked : last_answer bk m k s ≡ first (block_tests m ++ (kind_tests k ++ finished_tests s)) without tagged
     unfolding last_answer without tagged
     last_booked = book_taken bk (block_tests m ++ (kind_tests k ++ finished_tests s)) without tagged z e

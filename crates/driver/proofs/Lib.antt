@@ -3,4 +3,3 @@ pub mod AdmitLaws
 pub mod AnswerLaws
 pub mod SealLaws
 pub mod SessionLaws
-pub mod LentLocal

@@ -1,6 +1,6 @@
 -- The driver (document 01, "Pad, driver, archive", "Refusals from the input" and "from the state"; 02, 2026-05): what each of its
 -- operations answers, from a book (01's term) of any bytes.
-use Rattle.std.specs.Prelude.{Bool, true, false, cond, not, ◌||◌, ℕ, suc, ◌+◌, ◌*◌, ◌-◌, ◌/◌, eqb, leb, ltb, length, get_or, drop}
+use Rattle.std.specs.Prelude.{Bool, true, false, cond, not, ◌||◌, ℕ, suc, ◌+◌, ◌*◌, ◌-◌, ◌/◌, eqb, leb, ltb, length, get_or, drop, Option, Some, None, Result, Ok, Err}
 use mathlib.Core.List.{List, [], ◌∷◌, ◌++◌, flatten}
 use Rattle.lists.specs.Blocks.{zeros, blocks}
 use Rattle.lists.specs.Refusals.{first}
@@ -8,17 +8,12 @@ use Rattle.cipher.specs.Tables.{table_round, table_rounds, table_fold}
 use Rattle.cipher.specs.Book.{book_body, start_of, group_at, round_at}
 use Rattle.cipher.specs.Lengths.{rounds_start, round_length}
 use Rattle.cipher.specs.KeySize.{rounds, key_length, book_length, size_of_book}
-use Rattle.cipher.specs.Refusal.{number_of, outcome_of}
-use Rattle.cipher.specs.Answers.{block_told, block_tests, text_tests, room_tests}
+use Rattle.cipher.specs.Refusal.{number_of}
+use Rattle.cipher.specs.Answers.{block_tests, text_tests, room_tests}
 use Rattle.cipher.specs.declared.size.KeySize.{KeySize}
 use Rattle.cipher.specs.declared.size.KeySize.TheVariants.{Bytes16, Bytes24, Bytes32}
-use Rattle.cipher.specs.declared.size.SizeFound.{SizeFound}
-use Rattle.cipher.specs.declared.size.SizeFound.TheVariants.{Found, Unknown}
-use Rattle.driver.specs.declared.admit.Admitted.{Admitted}
-use Rattle.driver.specs.declared.admit.Admitted.TheVariants.{Size, Refused}
+use Rattle.cipher.specs.declared.refusal.Refusal.{Refusal}
 use Rattle.driver.specs.declared.session.Session.{Session}
-use Rattle.driver.specs.declared.session.SessionAnswer.{SessionAnswer}
-use Rattle.driver.specs.declared.session.TagAnswer.{TagAnswer}
 
 -- ---- rounds
 
@@ -31,9 +26,9 @@ tables_tests t = (not (eqb (length t) round_length), 6) ∷ []
 
 -- whether a byte belongs to a book's length: it is the length of a key of the size that the length tells. Refusal 33: a book whose
 -- first byte does not
-abbrev pub belongs : SizeFound → ℕ → Bool
-belongs (Found z) b = eqb b (key_length z)
-belongs Unknown b = false
+abbrev pub belongs : Option KeySize → ℕ → Bool
+belongs (Some z) b = eqb b (key_length z)
+belongs None b = false
 
 abbrev pub size_byte_tests : List ℕ → List (Bool × ℕ)
 size_byte_tests bk = (not (belongs (size_of_book (length bk)) (get_or bk 0 0)), 33) ∷ []
@@ -43,12 +38,12 @@ abbrev pub book_tests : List ℕ → List (Bool × ℕ)
 book_tests bk = book_length_tests bk ++ size_byte_tests bk
 
 -- the size of a book's key, or the number of the refusal; and admitting a book
-abbrev pub admitted_told : Admitted → ℕ × SizeFound
-admitted_told (Size z) = (0, Found z)
-admitted_told (Refused q) = (number_of q, Unknown)
+abbrev pub admitted_told : Result KeySize Refusal → ℕ × Option KeySize
+admitted_told (Ok z) = (0, Some z)
+admitted_told (Err q) = (number_of q, None)
 
-unfoldable pub admit_answer : List ℕ → ℕ × SizeFound
-admit_answer bk = first (book_tests bk) (λ q. (q, Unknown)) (0, size_of_book (length bk))
+unfoldable pub admit_answer : List ℕ → ℕ × Option KeySize
+admit_answer bk = first (book_tests bk) (λ q. (q, None)) (0, size_of_book (length bk))
 
 -- the length of a book's body, for the size of its key; and how many rounds a body has
 abbrev pub body_length : KeySize → ℕ
@@ -112,12 +107,15 @@ moved s x = record { block = x; taken = suc s.taken; finished = s.finished }
 abbrev pub closed : Session → Session
 closed s = record { block = s.block; taken = s.taken; finished = true }
 
--- an answer as a number and a session, or a number, a tag and a session
-abbrev pub session_told : SessionAnswer → ℕ × Session
-session_told a = (outcome_of a.outcome, a.session)
+-- an answer as a number and a session, or a number, a tag and a session: where it was refused, zeros for the tag, and the session that
+-- the caller has
+abbrev pub session_told : Result Session Refusal → Session → ℕ × Session
+session_told (Ok t) s = (0, t)
+session_told (Err q) s = (number_of q, s)
 
-abbrev pub tag_told : TagAnswer → (ℕ × List ℕ) × Session
-tag_told a = (block_told a.answer, a.session)
+abbrev pub tag_told : Result (List ℕ × Session) Refusal → Session → (ℕ × List ℕ) × Session
+tag_told (Ok p) s = ((0, p.0), p.1)
+tag_told (Err q) s = ((number_of q, zeros), s)
 
 -- beginning in place of a session s, which a refusal leaves: a fresh session that holds the book's start
 unfoldable pub begun_over : List ℕ → Session → ℕ × Session

@@ -7,27 +7,18 @@ ghost use Rattle.driver.specs.Driver.{admitted_told, admit_answer};
 use cipher::invert::wide;
 use cipher::lengths;
 use cipher::refusal::Refusal;
-use cipher::size::{KeySize, SizeFound};
+use cipher::size::KeySize;
 
-// The size of a book's key, or why the book is refused.
-#[derive(Clone, Copy)]
-pub enum Admitted {
-    Size(KeySize),
-    Refused(Refusal),
-}
-
-// The tests on a book: it has the length that goes with some key size, else 6, and its first byte is the
-// length of such a key, else 33.
-pub fn admit(book: &[u8]) -> Admitted
+// The size of a book's key, or why the book is refused: it has the length that goes with some key size,
+// else 6, and its first byte is the length of such a key, else 33.
+pub fn admit(book: &[u8]) -> Result<KeySize, Refusal>
     ensures { admitted_told result ≡ admit_answer book.now }
 {
-    let SizeFound::Found(size) = KeySize::of_book_len(book.len()) else {
-        return Admitted::Refused(Refusal::BookLength);
-    };
+    let size = KeySize::of_book_len(book.len()).ok_or(Refusal::BookLength)?;
     if wide(book[0]) != size.key_len() {
-        return Admitted::Refused(Refusal::SizeByte);
+        return Err(Refusal::SizeByte);
     }
-    Admitted::Size(size)
+    Ok(size)
 }
 
 // The body of a book that was admitted.

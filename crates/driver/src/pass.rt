@@ -12,7 +12,7 @@ pub fn pass(size: KeySize, body: &[u8], g: usize, x: [u8; 16], y: [u8; 16]) -> [
     requires { (g < 3) × (length body.now ≡ D.body_length size) }
     ensures { result ≡ D.pass body.now g x y }
 {
-    let at = lengths::START + lengths::GROUP * g;
-    let z = fold(&body[at..], x, y);
+    let (groups, _) = body[lengths::START..].as_chunks::<{ lengths::GROUP }>();
+    let z = fold(&groups[g], x, y);
     rounds(body, size.rounds(), z)
 }

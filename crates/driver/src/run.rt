@@ -5,44 +5,39 @@ ghost use Rattle.std.specs.Prelude.{◌≡◌};
 ghost use Rattle.cipher.specs.Answers.{block_told};
 ghost use Rattle.driver.specs.Driver.{run_round_answer, run_rounds_answer};
 
-use crate::admit::{Admitted, admit, body};
-use cipher::answer::{BlockAnswer, done, refused};
+use crate::admit::{admit, body};
 use cipher::block::block_at;
 use cipher::lengths;
 use cipher::refusal::Refusal;
+use table_reader::entry::RoundTables;
 use table_reader::round::{rounds, step};
 
 // A block by the tables of one round.
-pub fn run_round(tables: &[u8], block: &[u8]) -> BlockAnswer
+pub fn run_round(tables: &[u8], block: &[u8]) -> Result<[u8; 16], Refusal>
     ensures { block_told result ≡ run_round_answer tables.now block.now }
 {
-    if tables.len() != lengths::ROUND_TABLES {
-        return refused(Refusal::BookLength);
-    }
+    let Ok(tables) = <&RoundTables>::try_from(tables) else {
+        return Err(Refusal::BookLength);
+    };
     if block.len() != lengths::BLOCK {
-        return refused(Refusal::BlockLength);
+        return Err(Refusal::BlockLength);
     }
     let mut y = block_at(block, 0);
     step(tables, &mut y);
-    done(y)
+    Ok(y)
 }
 
 // A block by the first n rounds of a book, all of them where n is more.
-pub fn run_rounds(book: &[u8], n: usize, block: &[u8]) -> BlockAnswer
+pub fn run_rounds(book: &[u8], n: usize, block: &[u8]) -> Result<[u8; 16], Refusal>
     ensures { block_told result ≡ run_rounds_answer book.now n block.now }
 {
-    let size = match admit(book) {
-        Admitted::Refused(why) => return refused(why),
-        Admitted::Size(size) => size,
-    };
+    let size = admit(book)?;
     if block.len() != lengths::BLOCK {
-        return refused(Refusal::BlockLength);
+        return Err(Refusal::BlockLength);
     }
     let parts = body(book);
     let all = size.rounds();
+    let few = n.min(all);
     let first = block_at(block, 0);
-    if n <= all {
-        return done(rounds(parts, n, first));
-    }
-    done(rounds(parts, all, first))
+    Ok(rounds(parts, few, first))
 }

@@ -5,44 +5,41 @@ ghost use Rattle.lists.specs.Blocks.{cut, block_length};
 ghost use Rattle.cipher.specs.Refusal.{written_of};
 ghost use Rattle.driver.specs.Driver as D;
 
-use crate::admit::{Admitted, admit, body};
+use crate::admit::{admit, body};
 use crate::pass::pass;
 use cipher::block::{bad_text, block_at, put_block};
 use cipher::lengths;
-use cipher::refusal::{Refusal, Written};
+use cipher::refusal::Refusal;
 use cipher::size::KeySize;
 
-// The first n coded blocks sealed into the front of out.
+// The first n coded blocks sealed into the front of out; n is asked, since `cut` takes so many.
 fn seal_blocks(size: KeySize, body: &[u8], iv: [u8; 16], coded: &[u8], n: usize, out: &mut [u8])
     requires { (length body.now ≡ D.body_length size) × (n ≤ 65536) × (block_length * n ≤ length coded.now) × (block_length * n ≤ length out.old) }
     ensures { out.new ≡ flatten (D.passed_from (D.pass body.now 0) iv (cut n coded.now)) ++ drop (block_length * n) out.old }
 {
     let mut x = iv;
-    for k in 0..n {
-        let at = lengths::BLOCK * k;
-        let y = pass(size, body, 0, x, block_at(coded, at));
-        put_block(out, at, y);
+    let (blocks, _) = coded.as_chunks::<{ lengths::BLOCK }>();
+    for (k, block) in blocks[..n].iter().enumerate() {
+        let y = pass(size, body, 0, x, *block);
+        put_block(out, lengths::BLOCK * k, y);
         x = y;
     }
 }
 
 // A coded message sealed by a book from a coded IV, into the front of out.
-pub fn seal(book: &[u8], iv: &[u8], coded: &[u8], out: &mut [u8]) -> Written
+pub fn seal(book: &[u8], iv: &[u8], coded: &[u8], out: &mut [u8]) -> Result<usize, Refusal>
     ensures { (written_of result, out.new) ≡ D.seal_answer book.now iv.now coded.now out.old }
 {
-    let size = match admit(book) {
-        Admitted::Refused(why) => return Written::Refused(why),
-        Admitted::Size(size) => size,
-    };
+    let size = admit(book)?;
     if iv.len() != lengths::BLOCK {
-        return Written::Refused(Refusal::BlockLength);
+        return Err(Refusal::BlockLength);
     }
     let n = coded.len();
     if bad_text(n) {
-        return Written::Refused(Refusal::MessageLength);
+        return Err(Refusal::MessageLength);
     }
     if out.len() < n {
-        return Written::Refused(Refusal::ShortBuffer);
+        return Err(Refusal::ShortBuffer);
     }
     seal_blocks(
         size,
@@ -52,5 +49,5 @@ pub fn seal(book: &[u8], iv: &[u8], coded: &[u8], out: &mut [u8]) -> Written
         n / lengths::BLOCK,
         out,
     );
-    Written::Bytes(n)
+    Ok(n)
 }

@@ -13,5 +13,6 @@ pub mod SeenLaws
 pub mod RecordsLaws
 pub mod ToldLaws
 pub mod PutLaws
+pub mod GivenLaws
 pub mod WriteInkLaws
 pub mod Example

@@ -6,16 +6,14 @@ use Prim.Native.Nat.{ℕ, suc, ◌+◌, ◌-◌, ◌≤◌, ◌<◌}
 use native.Mathlib.Numerals.{add-one}
 use native.Mathlib.Decide.{ℕ_discrete}
 use native.Mathlib.Omega.{arith}
-use borrow.Author.Tests.{le-leb, lt-leb, eq-eqb, ne_eqb, not-true, not-false}
+use borrow.Author.Tests.{eq-eqb, ne_eqb, not-true, not-false}
 use lib.Dec.{eqb, leb}
 use lib.ListN.{length, set, replicate}
 use Rattle.lists.specs.Tabulation.{tab}
 use Rattle.lists.specs.Refusals.{first}
 use Rattle.lists.proofs.PartLaws.{fill_turn}
 use Rattle.cipher.specs.declared.refusal.Refusal.{Refusal}
-use Rattle.cipher.specs.declared.refusal.Outcome.{Outcome}
-use Rattle.cipher.specs.declared.refusal.Outcome.TheVariants.{Done, Refused}
-use Rattle.cipher.specs.Refusal.{number_of, outcome_of}
+use Rattle.cipher.specs.Refusal.{number_of}
 use Rattle.cipher.proofs.AnswerLaws.{number_more}
 use Rattle.inkfile.specs.Reading.{kind_at, length_at, start_of, record_tests, ends, walk, records_read, kinds_to, offsets_to, lengths_to}
 use Rattle.inkfile.specs.Faults.{Sound, RecordFault, here}
@@ -23,14 +21,6 @@ use Rattle.inkfile.specs.ReadingSteps.{seen_answer, goes_on, records_of_walk, re
 use Rattle.inkfile.proofs.TestLaws.{record_sound}
 use Rattle.inkfile.proofs.WalkLaws.{sound_of, fault_of_lem, walk_end, walk_on, next_start}
 use Rattle.inkfile.proofs.ReadRefusals.{few_sound, fault_refused}
-
-pub on_few : (left k : ℕ) → k < 4 → goes_on left k ≡ true
-unfolding goes_on
-on_few left k h = rw (lt-leb 4 k h)
-
-pub on_behind : (left k : ℕ) → 4 ≤ k → goes_on left k ≡ not (eqb left 0)
-unfolding goes_on
-on_behind left k h = rw (le-leb 4 k h)
 
 -- nothing is left at the end
 left_none : (n at : ℕ) → at ≤ n → eqb (n - at) 0 ≡ eqb at n
@@ -80,26 +70,26 @@ module _ (file : List ℕ) where
       records_on h = not-true (ends file k) (sym (on_ends k at b.place b.room) ∙ sym et ∙ h)
 
       -- and what is seen of the record there
-      module _ (ht : t ≡ true) (o : Outcome) (kind n : ℕ) (es : (outcome_of o, kind, n) ≡ seen_answer file k at) where
-        seen_number : (first {A = ℕ × ℕ × ℕ} (record_tests file k at) (λ q. (q, 0, 0)) (0, kind_at file at, length_at file at)).0 ≡ outcome_of o
+      module _ (ht : t ≡ true) where
+        seen_number : (a : ℕ × ℕ × ℕ) → a ≡ seen_answer file k at → (first {A = ℕ × ℕ × ℕ} (record_tests file k at) (λ q. (q, 0, 0)) (0, kind_at file at, length_at file at)).0 ≡ a.0
         unfolding seen_answer
-        seen_number = sym (ap (λ (p : ℕ × ℕ × ℕ). p.0) es)
+        seen_number a e = sym (ap (λ (p : ℕ × ℕ × ℕ). p.0) e)
 
         -- a fault
-        pub records_refused : (q : Refusal) → o ≡ Refused q → no_records q ≡ records_answer file
+        pub records_refused : (q : Refusal) → (number_of q, 0, 0) ≡ seen_answer file k at → no_records q ≡ records_answer file
         unfolding records_of_walk tab
-        records_refused q eo =
-            let f : RecordFault file k at (number_of q) = fault_of_lem file k at (number_of q) (number_more q) (seen_number ∙ ap outcome_of eo) in
+        records_refused q e =
+            let f : RecordFault file k at (number_of q) = fault_of_lem file k at (number_of q) (number_more q) (seen_number (number_of q, 0, 0) e) in
             let g : RecordFault file k (start_of file k) (number_of q) = rw b.place at f in
             let w = fault_refused file (8 - k) k (number_of q) (let l = b.few in omega arith) (here (records_on ht) g) in
             sym (ap (records_of_walk file) (b.walked ∙ w))
 
         -- a turn
-        module _ (eo : o ≡ Done) where
+        module _ (kind n : ℕ) (es : (0, kind, n) ≡ seen_answer file k at) where
           sound : Sound file k at
-          sound = sound_of file {A = ℕ × ℕ × ℕ} (λ p. p.0) (λ q. (q, 0, 0)) (0, kind_at file at, length_at file at) (λ q. refl) k at (seen_number ∙ ap outcome_of eo)
+          sound = sound_of file {A = ℕ × ℕ × ℕ} (λ p. p.0) (λ q. (q, 0, 0)) (0, kind_at file at, length_at file at) (λ q. refl) k at (seen_number (0, kind, n) es)
 
-          seen_is : ◌≡◌ {A = ℕ × ℕ × ℕ} (outcome_of o, kind, n) (0, kind_at file at, length_at file at)
+          seen_is : ◌≡◌ {A = ℕ × ℕ × ℕ} (0, kind, n) (0, kind_at file at, length_at file at)
           unfolding seen_answer
           seen_is = es ∙ record_sound (λ q. (q, 0, 0)) (0, kind_at file at, length_at file at) file k at sound
 
@@ -109,32 +99,39 @@ module _ (file : List ℕ) where
           length_is : n ≡ length_at file (start_of file k)
           length_is = ap (λ (p : ℕ × ℕ × ℕ). p.2) seen_is ∙ ap (length_at file) b.place
 
-          pub turn_few : k < 8
-          turn_few = few_sound file k at sound
+          few_more : k < 8
+          few_more = few_sound file k at sound
 
-          pub turn_room : at + 6 + n ≤ length file
-          turn_room = let r = sound.room in let e = ap (λ (p : ℕ × ℕ × ℕ). p.2) seen_is in omega arith
+          -- what it leaves: there was room for the record, and the lists with it
+          pub record Turn : Type 0 where
+            pub few : k < 8
+            pub room : at + 6 + n ≤ length file
+            pub behind : Behind (k + 1) (at + 6 + n)
+            pub kinds : (ks : List ℕ) → ks ≡ filled_up (kinds_to file k) k → set ks k kind ≡ filled_up (kinds_to file (k + 1)) (k + 1)
+            pub offsets : (os : List ℕ) → os ≡ filled_up (offsets_to file k) k → set os k (at + 6) ≡ filled_up (offsets_to file (k + 1)) (k + 1)
+            pub lengths : (ls : List ℕ) → ls ≡ filled_up (lengths_to file k) k → set ls k n ≡ filled_up (lengths_to file (k + 1)) (k + 1)
 
-          pub turn_behind : Behind (k + 1) (at + 6 + n)
-          turn_behind =
-              let l = turn_few in
+          room_more : at + 6 + n ≤ length file
+          room_more = let r = sound.room in let e = ap (λ (p : ℕ × ℕ × ℕ). p.2) seen_is in omega arith
+
+          pub turn : Turn
+          turn =
+              let l = few_more in
               let s : k + 1 ≡ suc k = add-one k in
               let step : 8 - k ≡ suc (8 - (k + 1)) = omega arith in
               record {
-                few = omega arith;
-                place = (λ i. b.place i + 6 + length_is i) ∙ sym (next_start file k) ∙ ap (start_of file) (sym s);
-                room = turn_room;
-                walked = b.walked ∙ ap (λ (j : ℕ). walk file j k) step ∙ walk_on file (8 - (k + 1)) k (records_on ht) (rw (sym b.place) sound) ∙ ap (walk file (8 - (k + 1))) (sym s);
+                few = l;
+                room = room_more;
+                behind = record {
+                  few = omega arith;
+                  place = (λ i. b.place i + 6 + length_is i) ∙ sym (next_start file k) ∙ ap (start_of file) (sym s);
+                  room = room_more;
+                  walked = b.walked ∙ ap (λ (j : ℕ). walk file j k) step ∙ walk_on file (8 - (k + 1)) k (records_on ht) (rw (sym b.place) sound) ∙ ap (walk file (8 - (k + 1))) (sym s);
+                };
+                kinds = λ ks e. fill_turn (λ i. kind_at file (start_of file i)) 8 ks k kind e kind_is l;
+                offsets = λ os e. fill_turn (λ i. start_of file i + 6) 8 os k (at + 6) e (ap (λ (j : ℕ). j + 6) b.place) l;
+                lengths = λ ls e. fill_turn (λ i. length_at file (start_of file i)) 8 ls k n e length_is l;
               }
-
-          pub turn_kinds : (ks : List ℕ) → ks ≡ filled_up (kinds_to file k) k → set ks k kind ≡ filled_up (kinds_to file (k + 1)) (k + 1)
-          turn_kinds ks e = fill_turn (λ i. kind_at file (start_of file i)) 8 ks k kind e kind_is turn_few
-
-          pub turn_offsets : (os : List ℕ) → os ≡ filled_up (offsets_to file k) k → set os k (at + 6) ≡ filled_up (offsets_to file (k + 1)) (k + 1)
-          turn_offsets os e = fill_turn (λ i. start_of file i + 6) 8 os k (at + 6) e (ap (λ (j : ℕ). j + 6) b.place) turn_few
-
-          pub turn_lengths : (ls : List ℕ) → ls ≡ filled_up (lengths_to file k) k → set ls k n ≡ filled_up (lengths_to file (k + 1)) (k + 1)
-          turn_lengths ls e = fill_turn (λ i. length_at file (start_of file i)) 8 ls k n e length_is turn_few
 
 -- nothing is filled yet
 pub none_yet : (f : ℕ → ℕ) → replicate 8 0 ≡ filled_up (tab 0 f) 0

@@ -5,9 +5,7 @@ use Prim.Native.Nat.{ℕ, ◌+◌, ◌-◌, ◌≤◌, ◌<◌}
 use native.Mathlib.Omega.{arith}
 use lib.ListN.{length, get_or}
 use Rattle.cipher.specs.declared.refusal.Refusal.{Refusal}
-use Rattle.cipher.specs.declared.refusal.Outcome.{Outcome}
-use Rattle.cipher.specs.declared.refusal.Outcome.TheVariants.{Done, Refused}
-use Rattle.cipher.specs.Refusal.{number_of, outcome_of}
+use Rattle.cipher.specs.Refusal.{number_of}
 use Rattle.cipher.proofs.AnswerLaws.{number_more}
 use Rattle.inkfile.specs.Format.{mark}
 use Rattle.inkfile.specs.Reading.{kind_at, length_at}
@@ -29,17 +27,17 @@ module _ (file : List ℕ) (k at : ℕ) where
     pub seen_unmarked : (get_or file at 0 ≡ mark → ⊥) → seen_answer file k at ≡ (30, 0, 0)
     seen_unmarked m = seen_fault 30 (unmarked h m)
 
-    -- by the fault o of its kind and its length n
-    module _ (m : get_or file at 0 ≡ mark) (n : ℕ) (eN : n ≡ length_at file at) (o : Outcome) (eo : outcome_of o ≡ fault_of k (kind_at file at) n) where
-      judged : fault_of k (kind_at file at) (length_at file at) ≡ outcome_of o
-      judged = ap (fault_of k (kind_at file at)) (sym eN) ∙ sym eo
+    -- by the fault of its kind and its length n
+    module _ (m : get_or file at 0 ≡ mark) (n : ℕ) (eN : n ≡ length_at file at) where
+      judged : (q : ℕ) → q ≡ fault_of k (kind_at file at) n → fault_of k (kind_at file at) (length_at file at) ≡ q
+      judged q e = ap (fault_of k (kind_at file at)) (sym eN) ∙ sym e
 
-      pub seen_kind : (q : Refusal) → o ≡ Refused q → seen_answer file k at ≡ (number_of q, 0, 0)
-      seen_kind q e = seen_fault (number_of q) (by_kind h m (fault_known k (kind_at file at) (length_at file at) (number_of q) (number_more q) (judged ∙ ap outcome_of e)))
+      pub seen_kind : (q : Refusal) → number_of q ≡ fault_of k (kind_at file at) n → seen_answer file k at ≡ (number_of q, 0, 0)
+      seen_kind q e = seen_fault (number_of q) (by_kind h m (fault_known k (kind_at file at) (length_at file at) (number_of q) (number_more q) (judged (number_of q) e)))
 
-      module _ (e : o ≡ Done) where
+      module _ (e : 0 ≡ fault_of k (kind_at file at) n) where
         fits : Fitting k (kind_at file at) (length_at file at)
-        fits = fault_fits k (kind_at file at) (length_at file at) (judged ∙ ap outcome_of e)
+        fits = fault_fits k (kind_at file at) (length_at file at) (judged 0 e)
 
         pub seen_past : length file - at - 6 < n → seen_answer file k at ≡ (31, 0, 0)
         seen_past l = seen_fault 31 (past_end h m fits (omega arith))

@@ -1,11 +1,11 @@
 -- The kinds of records of an ink file (document 02, 2026-02): which byte stands for which, as which record of a file each may come, and
 -- how many bytes each may have.
-use Rattle.std.specs.Prelude.{Bool, false, cond, not, ◌&&◌, List, [], ◌∷◌, ℕ, eqb, leb, ltb}
+use Rattle.std.specs.Prelude.{Bool, false, Option, Some, None, cond, not, ◌&&◌, List, [], ◌∷◌, ℕ, eqb, leb, ltb}
 use Rattle.lists.specs.Blocks.{block_length}
 use Rattle.lists.specs.Refusals.{first}
 use Rattle.cipher.specs.Answers.{bad_text}
 use Rattle.inkfile.specs.declared.kind.Kind.{Kind}
-use Rattle.inkfile.specs.declared.kind.Kind.TheVariants.{PadNumber, Iv, Sealed, Tag, Remark, Unknown}
+use Rattle.inkfile.specs.declared.kind.Kind.TheVariants.{PadNumber, Iv, Sealed, Tag, Remark}
 
 -- the bytes of a pad number, and the most bytes of a remark
 abbrev pub pad_number_length : ℕ
@@ -15,28 +15,29 @@ abbrev pub longest_remark : ℕ
 longest_remark = 255
 
 -- the kind that a byte stands for: 01 to 04 and 10 to 1f are known, 00, 05 to 0f and 20 to ff are not
-unfoldable pub kind_of : ℕ → Kind
+unfoldable pub kind_of : ℕ → Option Kind
 kind_of b =
-    cond (eqb b 0x01) PadNumber (cond (eqb b 0x02) Iv (cond (eqb b 0x03) Sealed (cond (eqb b 0x04) Tag
-    (cond (leb 0x10 b && leb b 0x1f) Remark Unknown))))
+    cond (eqb b 0x01) (Some PadNumber) (cond (eqb b 0x02) (Some Iv) (cond (eqb b 0x03) (Some Sealed) (cond (eqb b 0x04) (Some Tag)
+    (cond (leb 0x10 b && leb b 0x1f) (Some Remark) None))))
 
--- whether a record of a kind may be record k of a file, counted from 0: the first four in their order, then up to four remarks
-unfoldable pub due : Kind → ℕ → Bool
-due PadNumber k = eqb k 0
-due Iv k = eqb k 1
-due Sealed k = eqb k 2
-due Tag k = eqb k 3
-due Remark k = leb 4 k && ltb k 8
-due Unknown k = false
+-- whether a record of a kind may be record k of a file, counted from 0: the first four in their order, then up to four remarks; one of
+-- no known kind may not
+unfoldable pub due : Option Kind → ℕ → Bool
+due (Some PadNumber) k = eqb k 0
+due (Some Iv) k = eqb k 1
+due (Some Sealed) k = eqb k 2
+due (Some Tag) k = eqb k 3
+due (Some Remark) k = leb 4 k && ltb k 8
+due None k = false
 
 -- whether it may have n bytes; sealed blocks are as many bytes as opening takes
-unfoldable pub sized : Kind → ℕ → Bool
-sized PadNumber n = eqb n pad_number_length
-sized Iv n = eqb n block_length
-sized Sealed n = not (bad_text n)
-sized Tag n = eqb n block_length
-sized Remark n = leb n longest_remark
-sized Unknown n = false
+unfoldable pub sized : Option Kind → ℕ → Bool
+sized (Some PadNumber) n = eqb n pad_number_length
+sized (Some Iv) n = eqb n block_length
+sized (Some Sealed) n = not (bad_text n)
+sized (Some Tag) n = eqb n block_length
+sized (Some Remark) n = leb n longest_remark
+sized None n = false
 
 -- what is refused of a record k with a kind byte and n bytes, by a reader and by a writer: 30, a kind that is not known or not due; then
 -- 31, a length that the kind does not allow

@@ -1,19 +1,18 @@
 -- What the inner functions of reading answer, and the answer of reading as `Reading` has it.
-use Rattle.std.specs.Prelude.{Bool, not, ◌&&◌, List, ◌++◌, ℕ, ◌-◌, eqb, leb, replicate}
+use Rattle.std.specs.Prelude.{Bool, not, ◌&&◌, List, ◌++◌, map, ℕ, ◌-◌, eqb, leb, replicate, Result, Ok, Err}
 use Rattle.lists.specs.Refusals.{first}
 use Rattle.cipher.specs.declared.refusal.Refusal.{Refusal}
-use Rattle.cipher.specs.Refusal.{number_of, outcome_of}
-use Rattle.inkfile.specs.declared.read.Seen.{Seen}
+use Rattle.cipher.specs.Refusal.{number_of}
+use Rattle.inkfile.specs.declared.read.Head.{Head}
+use Rattle.inkfile.specs.declared.read.Record.{Record}
 use Rattle.inkfile.specs.declared.read.Records.{Records}
 use Rattle.inkfile.specs.declared.read.Ink.{Ink}
 use Rattle.inkfile.specs.Reading.{kind_at, length_at, record_tests, records_read, kinds_to, offsets_to, lengths_to, Told}
 
 -- of a record: a refusal's number or 0, its kind byte and its length
-abbrev pub seen_told : Seen → ℕ × ℕ × ℕ
-seen_told s = (outcome_of s.outcome, s.kind, s.length)
-
-abbrev pub nothing_seen : Refusal → ℕ × ℕ × ℕ
-nothing_seen q = (number_of q, 0, 0)
+abbrev pub seen_told : Result Head Refusal → ℕ × ℕ × ℕ
+seen_told (Ok s) = (0, s.kind, s.length)
+seen_told (Err q) = (number_of q, 0, 0)
 
 unfoldable pub seen_answer : List ℕ → ℕ → ℕ → ℕ × ℕ × ℕ
 seen_answer file k at = first (record_tests file k at) (λ q. (q, 0, 0)) (0, kind_at file at, length_at file at)
@@ -23,11 +22,21 @@ unfoldable pub goes_on : ℕ → ℕ → Bool
 goes_on left k = not (leb 4 k && eqb left 0)
 
 -- of all records: a refusal's number or 0, how many they are, and three lists of eight
-abbrev pub records_told : Records → ℕ × ℕ × List ℕ × List ℕ × List ℕ
-records_told r = (outcome_of r.outcome, r.count, r.kinds, r.offsets, r.lengths)
-
 abbrev pub no_records : Refusal → ℕ × ℕ × List ℕ × List ℕ × List ℕ
 no_records q = (number_of q, 0, replicate 8 0, replicate 8 0, replicate 8 0)
+
+abbrev pub kinds_in : List Record → List ℕ
+kinds_in rs = map (λ (r : Record). r.kind) rs
+
+abbrev pub offsets_in : List Record → List ℕ
+offsets_in rs = map (λ (r : Record). r.offset) rs
+
+abbrev pub lengths_in : List Record → List ℕ
+lengths_in rs = map (λ (r : Record). r.length) rs
+
+abbrev pub records_told : Result Records Refusal → ℕ × ℕ × List ℕ × List ℕ × List ℕ
+records_told (Ok r) = (0, r.count, kinds_in r.all, offsets_in r.all, lengths_in r.all)
+records_told (Err q) = no_records q
 
 -- the first c of eight, zeros behind them
 abbrev pub filled_up : List ℕ → ℕ → List ℕ
@@ -40,14 +49,11 @@ records_of_walk file a =
 abbrev pub records_answer : List ℕ → ℕ × ℕ × List ℕ × List ℕ × List ℕ
 records_answer file = records_of_walk file (records_read file)
 
-abbrev pub remarks_in : ℕ → ℕ
-remarks_in c = c - 4
-
 -- the answer of reading
-abbrev pub ink_told : Ink → Told
-ink_told r =
+abbrev pub ink_told : Result Ink Refusal → Told
+ink_told (Ok r) =
     record {
-      refusal = outcome_of r.outcome;
+      refusal = 0;
       pad_number = r.pad_number;
       iv = r.iv;
       sealed = r.sealed;
@@ -57,4 +63,17 @@ ink_told r =
       kinds = r.kinds;
       offsets = r.offsets;
       lengths = r.lengths;
+    }
+ink_told (Err q) =
+    record {
+      refusal = number_of q;
+      pad_number = 0;
+      iv = 0;
+      sealed = 0;
+      sealed_length = 0;
+      tag = 0;
+      count = 0;
+      kinds = replicate 4 0;
+      offsets = replicate 4 0;
+      lengths = replicate 4 0;
     }

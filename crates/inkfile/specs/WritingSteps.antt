@@ -1,42 +1,40 @@
 -- What the inner functions of writing answer.
-use Rattle.std.specs.Prelude.{cond, List, [], ◌++◌, ℕ, ◌+◌, ◌*◌, eqb, leb, length, get_or}
-use Rattle.inkfile.specs.Kinds.{fault_of}
-use Rattle.inkfile.specs.Format.{head_length, record_of}
+use Rattle.std.specs.Prelude.{List, ◌++◌, map, ℕ, ◌+◌, ◌*◌, length, sum_by, slice_range}
+use denote.Ref.{Bor}
+use Rattle.lists.specs.Refusals.{first}
+use Rattle.inkfile.specs.declared.write.Given.{Given}
+use Rattle.inkfile.specs.Format.{Record, head_length, record_of, run_of, Fields, records_of}
+use Rattle.inkfile.specs.Writing.{run_tests, remarks_of}
 
--- the fault of remark i, if it is given, of n bytes
-unfoldable pub remark_fault : List ℕ → ℕ → ℕ → ℕ
-remark_fault kinds i n = cond (leb (length kinds) i) 0 (fault_of (4 + i) (get_or kinds i 0) n)
+-- four bodies, as the code lends them, and the fields with them
+abbrev pub lent : List (Bor (List ℕ)) → List (List ℕ)
+lent bs = map (λ (b : Bor (List ℕ)). b.now) bs
 
--- the first of two faults
-unfoldable pub earlier_of : ℕ → ℕ → ℕ
-earlier_of a b = cond (eqb a 0) b a
+abbrev pub given : Given → Fields
+given g =
+    record { pad_number = g.number.now; iv = g.iv.now; sealed = g.sealed.now; tag = g.tag.now; remarks = remarks_of g.kinds.now (lent g.bodies) }
 
--- of all remarks, a fifth among them, and of all fields
-abbrev pub remarks_fault : List ℕ → ℕ → ℕ → ℕ → ℕ → ℕ
-remarks_fault kinds n0 n1 n2 n3 =
-    earlier_of (remark_fault kinds 0 n0) (earlier_of (remark_fault kinds 1 n1) (earlier_of (remark_fault kinds 2 n2)
-    (earlier_of (remark_fault kinds 3 n3) (remark_fault kinds 4 0))))
+-- the first fault of all remarks, a fifth among them, and of all fields
+unfoldable pub remarks_fault : List Record → ℕ
+remarks_fault rs = first (run_tests 4 rs) (λ q. q) 0
 
-abbrev pub fields_fault : ℕ → ℕ → ℕ → ℕ → ℕ → ℕ
-fields_fault pad_number iv sealed tag remarks =
-    earlier_of (fault_of 0 0x01 pad_number) (earlier_of (fault_of 1 0x02 iv) (earlier_of (fault_of 2 0x03 sealed) (earlier_of (fault_of 3 0x04 tag) remarks)))
+unfoldable pub fields_fault : Fields → ℕ
+fields_fault f = first (run_tests 0 (records_of f)) (λ q. q) 0
 
--- remark i, if it is given: its bytes in a file, and how many
-unfoldable pub remark_bytes : List ℕ → ℕ → List ℕ → List ℕ
-remark_bytes kinds i b = cond (leb (length kinds) i) [] (record_of (get_or kinds i 0, b))
+-- the first four records
+unfoldable pub fixed_bytes : Fields → List ℕ
+fixed_bytes f = ((record_of (0x01, f.pad_number) ++ record_of (0x02, f.iv)) ++ record_of (0x03, f.sealed)) ++ record_of (0x04, f.tag)
 
-unfoldable pub remark_size : List ℕ → ℕ → ℕ → ℕ
-remark_size kinds i n = cond (leb (length kinds) i) 0 (head_length + n)
+abbrev pub fixed_size : Fields → ℕ
+fixed_size f = 4 * head_length + length f.pad_number + length f.iv + length f.sealed + length f.tag
 
--- the first four records, and the remarks that are given
-unfoldable pub fixed_bytes : List ℕ → List ℕ → List ℕ → List ℕ → List ℕ
-fixed_bytes pad_number iv sealed tag = ((record_of (0x01, pad_number) ++ record_of (0x02, iv)) ++ record_of (0x03, sealed)) ++ record_of (0x04, tag)
+-- and the remarks: their bytes in a file, and how many
+abbrev pub remarks_bytes : List Record → List ℕ
+remarks_bytes rs = run_of rs
 
-abbrev pub fixed_size : ℕ → ℕ → ℕ → ℕ → ℕ
-fixed_size pad_number iv sealed tag = 4 * head_length + pad_number + iv + sealed + tag
+abbrev pub remarks_size : List Record → ℕ
+remarks_size rs = length (remarks_bytes rs)
 
-unfoldable pub remarks_bytes : List ℕ → List ℕ → List ℕ → List ℕ → List ℕ → List ℕ
-remarks_bytes kinds b0 b1 b2 b3 = ((remark_bytes kinds 0 b0 ++ remark_bytes kinds 1 b1) ++ remark_bytes kinds 2 b2) ++ remark_bytes kinds 3 b3
-
-abbrev pub remarks_size : List ℕ → ℕ → ℕ → ℕ → ℕ → ℕ
-remarks_size kinds n0 n1 n2 n3 = remark_size kinds 0 n0 + remark_size kinds 1 n1 + remark_size kinds 2 n2 + remark_size kinds 3 n3
+-- the same, as the code adds them up
+abbrev pub bodies_size : Given → ℕ
+bodies_size g = sum_by (λ b. head_length + length b.now) (slice_range g.bodies 0 (length g.kinds.now))

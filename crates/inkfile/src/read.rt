@@ -7,32 +7,37 @@ ghost use Rattle.inkfile.specs.ReadingSteps as S;
 
 use crate::kind::fault;
 use crate::layout;
-use cipher::refusal::{Outcome, Refusal};
+use cipher::refusal::Refusal;
 use words::word::word;
 
-// What is seen of a record: whether it is one, its kind byte and its length.
+// The head of a record: its kind byte, and how many bytes follow.
 #[derive(Clone, Copy)]
-pub struct Seen {
-    pub outcome: Outcome,
+pub struct Head {
     pub kind: u8,
     pub length: usize,
 }
 
-// The records of a file in order: their kinds, places of the bytes, lengths.
+// A record of a file: its kind byte, and where its bytes stand.
+#[derive(Clone, Copy)]
+pub struct Record {
+    pub kind: u8,
+    pub offset: usize,
+    pub length: usize,
+}
+
+// The records of a file in order, as many as there are; zeros behind them.
+// An array and a count: the product works in fixed memory.
 #[derive(Clone, Copy)]
 pub struct Records {
-    pub outcome: Outcome,
     pub count: usize,
-    pub kinds: [u8; 8],
-    pub offsets: [usize; 8],
-    pub lengths: [usize; 8],
+    pub all: [Record; 8],
 }
 
 // Where the fields of an ink file stand: places of the first four, the length of the sealed blocks, the
 // number of remarks, and of each its kind, place and length. Zeros where there is nothing.
+// Kinds, places and lengths side by side: the C interface's struct has them so.
 #[derive(Clone, Copy)]
 pub struct Ink {
-    pub outcome: Outcome,
     pub pad_number: usize,
     pub iv: usize,
     pub sealed: usize,
@@ -45,6 +50,7 @@ pub struct Ink {
 }
 
 // The length of the record that starts at a place.
+#[tactic(auto, unfolding(crate::specs::Reading::length_at))]
 fn length_at(file: &[u8], at: usize) -> usize
     requires { at + head_length ≤ length file.now }
     ensures { result ≡ R.length_at file.now at }
@@ -52,57 +58,29 @@ fn length_at(file: &[u8], at: usize) -> usize
     word(file[at + 2], file[at + 3], file[at + 4], file[at + 5]) as usize
 }
 
-fn unseen(why: Refusal) -> Seen
-    ensures { S.seen_told result ≡ S.nothing_seen why }
-{
-    Seen {
-        outcome: Outcome::Refused(why),
-        kind: 0,
-        length: 0,
-    }
-}
-
 // Record k of a file, which starts at a place.
-fn record_at(file: &[u8], k: usize, at: usize) -> Seen
+fn record_at(file: &[u8], k: usize, at: usize) -> Result<Head, Refusal>
     requires { at ≤ length file.now }
     ensures { S.seen_told result ≡ S.seen_answer file.now k at }
 {
     let left = file.len() - at;
     if left < layout::HEAD {
-        return unseen(Refusal::BadRecord);
+        return Err(Refusal::BadRecord);
     }
     if file[at] != layout::MARK {
-        return unseen(Refusal::BadRecord);
+        return Err(Refusal::BadRecord);
     }
     let kind = file[at + 1];
     let n = length_at(file, at);
-    let judged = fault(k, kind, n);
-    if let Outcome::Refused(why) = judged {
-        return unseen(why);
-    }
+    fault(k, kind, n)?;
     if left - layout::HEAD < n {
-        return unseen(Refusal::RecordLength);
+        return Err(Refusal::RecordLength);
     }
-    Seen {
-        outcome: Outcome::Done,
-        kind,
-        length: n,
-    }
-}
-
-fn refused(why: Refusal) -> Records
-    ensures { S.records_told result ≡ S.no_records why }
-{
-    Records {
-        outcome: Outcome::Refused(why),
-        count: 0,
-        kinds: [0u8; 8],
-        offsets: [0usize; 8],
-        lengths: [0usize; 8],
-    }
+    Ok(Head { kind, length: n })
 }
 
 // Whether a file of which some bytes are left goes on behind k records.
+#[tactic(auto, using(std::proofs::lemmas::Bool::Decides::nat_tests), unfolding(crate::specs::ReadingSteps::goes_on))]
 fn goes_on(left: usize, k: usize) -> bool
     ensures { result ≡ S.goes_on left k }
 {
@@ -113,74 +91,47 @@ fn goes_on(left: usize, k: usize) -> bool
 }
 
 // All records of a file; a ninth is refused, whatever it is.
-fn all_records(file: &[u8]) -> Records
+fn all_records(file: &[u8]) -> Result<Records, Refusal>
     ensures { S.records_told result ≡ S.records_answer file.now }
 {
-    let mut kinds = [0u8; 8];
-    let mut offsets = [0usize; 8];
-    let mut lengths = [0usize; 8];
+    let nothing = Record {
+        kind: 0,
+        offset: 0,
+        length: 0,
+    };
+    let mut all = [nothing; 8];
     let mut at = 0;
-    let mut k = 0;
-    while goes_on(file.len() - at, k) {
-        let seen = record_at(file, k, at);
-        let outcome = seen.outcome;
-        if let Outcome::Refused(why) = outcome {
-            return refused(why);
-        }
-        kinds[k] = seen.kind;
-        offsets[k] = at + layout::HEAD;
-        lengths[k] = seen.length;
-        at = at + layout::HEAD + seen.length;
-        k = k + 1;
+    let mut count = 0;
+    // By a while: only the records' lengths say how many there are.
+    while goes_on(file.len() - at, count) {
+        let head = record_at(file, count, at)?;
+        let offset = at + layout::HEAD;
+        all[count] = Record {
+            kind: head.kind,
+            offset,
+            length: head.length,
+        };
+        at = offset + head.length;
+        count += 1;
     }
-    Records {
-        outcome: Outcome::Done,
-        count: k,
-        kinds,
-        offsets,
-        lengths,
-    }
-}
-
-// The last four of eight.
-fn last_kinds(l: [u8; 8]) -> [u8; 4]
-    ensures { result ≡ R.behind_four l }
-{
-    [l[4], l[5], l[6], l[7]]
-}
-
-fn last_sizes(l: [usize; 8]) -> [usize; 4]
-    ensures { result ≡ R.behind_four l }
-{
-    [l[4], l[5], l[6], l[7]]
-}
-
-// How many of some records are remarks.
-fn remarks(count: usize) -> usize
-    ensures { result ≡ S.remarks_in count }
-{
-    if count < 4 { 0 } else { count - 4 }
+    Ok(Records { count, all })
 }
 
 // Where the fields of an ink file stand.
-pub fn read_ink(file: &[u8]) -> Ink
+pub fn read_ink(file: &[u8]) -> Result<Ink, Refusal>
     ensures { S.ink_told result ≡ R.read_ink_answer file.now }
 {
-    let found = all_records(file);
-    let outcome = found.outcome;
-    let kinds = found.kinds;
-    let offsets = found.offsets;
-    let lengths = found.lengths;
-    Ink {
-        outcome,
-        pad_number: offsets[0],
-        iv: offsets[1],
-        sealed: offsets[2],
-        sealed_length: lengths[2],
-        tag: offsets[3],
-        count: remarks(found.count),
-        kinds: last_kinds(kinds),
-        offsets: last_sizes(offsets),
-        lengths: last_sizes(lengths),
-    }
+    let found = all_records(file)?;
+    let [pad_number, iv, sealed, tag, r0, r1, r2, r3] = found.all;
+    Ok(Ink {
+        pad_number: pad_number.offset,
+        iv: iv.offset,
+        sealed: sealed.offset,
+        sealed_length: sealed.length,
+        tag: tag.offset,
+        count: found.count.saturating_sub(4),
+        kinds: [r0.kind, r1.kind, r2.kind, r3.kind],
+        offsets: [r0.offset, r1.offset, r2.offset, r3.offset],
+        lengths: [r0.length, r1.length, r2.length, r3.length],
+    })
 }

@@ -1,20 +1,11 @@
 -- The schedule of a key of 32 bytes, its words in a queue: the words in the order in which the steps take them.
-use Rattle.std.proofs.Common.{◌≡◌, ℕ, zero, suc, ◌+◌, ◌*◌, ◌%◌, ◌<◌, ◌≤◌, ◌⊎◌, List, [], ◌∷◌, length, get_or, sym, refl, ap, ◌∙◌, inl, inr, le_of_suc-le-suc, not-suc-le-zero, eq-or-lt_of_le, arith, length-set, get_or-set_other, get_or-set_same}
-use Rattle.lea_schedule.specs.Schedule.{delta_of, mixed, mixed_row, place, mix_at, step32, row32, stepped}
-use Rattle.lea_schedule.proofs.ScheduleLaws.{deltas, deltas_front, delta_word, mixed_row_turned, stepped_more}
-
--- the words that step i takes, then the two that it leaves
-unfoldable pub queued : ℕ → List ℕ → List ℕ
-queued i t =
-    get_or t (place i 0) 0
-    ∷ get_or t (place i 1) 0
-    ∷ get_or t (place i 2) 0
-    ∷ get_or t (place i 3) 0
-    ∷ get_or t (place i 4) 0
-    ∷ get_or t (place i 5) 0
-    ∷ get_or t (place i 6) 0
-    ∷ get_or t (place i 7) 0
-    ∷ []
+use Rattle.std.proofs.Common.{◌≡◌, ℕ, zero, suc, ◌+◌, ◌*◌, ◌%◌, ◌<◌, ◌≤◌, ◌⊎◌, List, [], ◌∷◌, length, get_or, sym, refl, ap, ◌∙◌, inl, inr}
+use Rattle.std.proofs.Common.{le_of_suc-le-suc, not-suc-le-zero, eq-or-lt_of_le, arith, length-set, get_or-set_other, get_or-set_same}
+use Rattle.lists.specs.Tabulation.{tab}
+use Rattle.lists.proofs.TabulationLaws.{tab_is}
+use Rattle.lea_schedule.specs.Schedule.{delta_of, mixed, mixed_row, place, mix_at, step32, row32}
+use Rattle.lea_schedule.specs.Steps.{turned_delta, queued, StepsBy}
+use Rattle.lea_schedule.proofs.ScheduleLaws.{delta_word, all_turned}
 
 -- ---- places
 
@@ -76,49 +67,43 @@ step_length : (i : ℕ) (t : List ℕ) → length (step32 i t) ≡ length t
 unfolding step32 mixes
 step_length i t = mixes_length i 6 t
 
-stepped_length : (i : ℕ) (t : List ℕ) → length (stepped step32 i t) ≡ length t
-unfolding stepped
-stepped_length zero t = refl
-stepped_length (suc i) t = step_length i (stepped step32 i t) ∙ stepped_length i t
+-- ---- a step of the queue
 
--- ---- one turn of the loop: q is the queue, and r the row that is mixed with the front of the queue of δ
-
-module _ (i : ℕ) (d t₀ q r : List ℕ) (size : length t₀ ≡ 8) (ed : d ≡ deltas 8 i) (eq : q ≡ queued i (stepped step32 i t₀))
-    (er : r ≡ mixed_row (get_or d 0 0) 0 (get_or q 0 0 ∷ get_or q 1 0 ∷ get_or q 2 0 ∷ get_or q 3 0 ∷ get_or q 4 0 ∷ get_or q 5 0 ∷ [])) where
-  next : step32 i (stepped step32 i t₀) ≡ stepped step32 (i + 1) t₀
-  next = sym (stepped_more step32 row32 i t₀)
-
-  -- the words at the places of step i, after it
-  mixed_at : (k : ℕ) → k < 6 → mixed (delta_of 8 i) i k (get_or (stepped step32 i t₀) (place i k) 0) ≡ get_or (stepped step32 (i + 1) t₀) (place i k) 0
+module _ (i : ℕ) (t : List ℕ) (size : length t ≡ 8) where
+  -- the words at the places of step i, after it, at their places of the next step
+  mixed_at : (k : ℕ) → k < 6 → mixed (delta_of 8 i) i k (get_or t (place i k) 0) ≡ get_or (step32 i t) (place (i + 1) (k + 2)) 0
   unfolding step32 mixes
-  mixed_at k h =
-      sym (changed i 6 k (stepped step32 i t₀) h (omega arith) (stepped_length i t₀ ∙ size))
-      ∙ ap (λ (l : List ℕ). get_or l (place i k) 0) next
+  mixed_at k h = sym (changed i 6 k t h (omega arith) size) ∙ ap (λ (n : ℕ). get_or (step32 i t) n 0) (place_again i k)
 
-  kept_at : (k : ℕ) → 6 ≤ k → k < 8 → get_or (stepped step32 i t₀) (place i k) 0 ≡ get_or (stepped step32 (i + 1) t₀) (place i k) 0
+  kept_at : (k : ℕ) → k < 2 → get_or t (place i (k + 6)) 0 ≡ get_or (step32 i t) (place (i + 1) k) 0
   unfolding step32 mixes
-  kept_at k h l =
-      sym (kept i 6 k (stepped step32 i t₀) h l)
-      ∙ ap (λ (l : List ℕ). get_or l (place i k) 0) next
+  kept_at k h = sym (kept i 6 (k + 6) t (omega arith) (omega arith)) ∙ ap (λ (n : ℕ). get_or (step32 i t) n 0) (place_next i k)
 
-  pub row_front : r ≡ row32 i (stepped step32 (i + 1) t₀)
-  unfolding queued mixed_row row32
-  row_front =
-      er
-      ∙ (λ z. mixed_row (deltas_front 7 i d ed z) 0 (get_or (eq z) 0 0 ∷ get_or (eq z) 1 0 ∷ get_or (eq z) 2 0 ∷ get_or (eq z) 3 0 ∷ get_or (eq z) 4 0 ∷ get_or (eq z) 5 0 ∷ []))
-      ∙ mixed_row_turned (delta_of 8 i) i (row32 i (stepped step32 i t₀)) (delta_word 8 i)
-      ∙ (λ z. mixed_at 0 (omega arith) z ∷ mixed_at 1 (omega arith) z ∷ mixed_at 2 (omega arith) z ∷ mixed_at 3 (omega arith) z ∷ mixed_at 4 (omega arith) z ∷ mixed_at 5 (omega arith) z ∷ [])
-
-  -- a word of the row, at its place of the next step
-  after : (k : ℕ) → get_or (stepped step32 (i + 1) t₀) (place i k) 0 ≡ get_or (stepped step32 (i + 1) t₀) (place (i + 1) (k + 2)) 0
-  after k = ap (λ (n : ℕ). get_or (stepped step32 (i + 1) t₀) n 0) (place_again i k)
-
-  ahead : (k : ℕ) → k < 2 → get_or (stepped step32 i t₀) (place i (k + 6)) 0 ≡ get_or (stepped step32 (i + 1) t₀) (place (i + 1) k) 0
-  ahead k h = kept_at (k + 6) (omega arith) (omega arith) ∙ ap (λ (n : ℕ). get_or (stepped step32 (i + 1) t₀) n 0) (place_next i k)
-
-  pub queue_more : get_or q 6 0 ∷ get_or q 7 0 ∷ get_or r 0 0 ∷ get_or r 1 0 ∷ get_or r 2 0 ∷ get_or r 3 0 ∷ get_or r 4 0 ∷ get_or r 5 0 ∷ [] ≡ queued (i + 1) (stepped step32 (i + 1) t₀)
-  unfolding queued row32
+  pub queue_more : get_or (queued i t) 6 0 ∷ get_or (queued i t) 7 0 ∷ mixed_row (turned_delta 8 i) 0 (queued i t) ≡ queued (i + 1) (step32 i t)
+  unfolding tab queued mixed_row
   queue_more =
-      (λ z. get_or (eq z) 6 0 ∷ get_or (eq z) 7 0 ∷ get_or (row_front z) 0 0 ∷ get_or (row_front z) 1 0
-      ∷ get_or (row_front z) 2 0 ∷ get_or (row_front z) 3 0 ∷ get_or (row_front z) 4 0 ∷ get_or (row_front z) 5 0 ∷ [])
-      ∙ (λ z. ahead 0 (omega arith) z ∷ ahead 1 (omega arith) z ∷ after 0 z ∷ after 1 z ∷ after 2 z ∷ after 3 z ∷ after 4 z ∷ after 5 z ∷ [])
+      (λ z. get_or t (place i 6) 0 ∷ get_or t (place i 7) 0 ∷ all_turned 6 (delta_of 8 i) i (queued i t) (delta_word 8 i) z)
+      ∙ (λ z. kept_at 0 (omega arith) z ∷ kept_at 1 (omega arith) z ∷ mixed_at 0 (omega arith) z ∷ mixed_at 1 (omega arith) z
+      ∷ mixed_at 2 (omega arith) z ∷ mixed_at 3 (omega arith) z ∷ mixed_at 4 (omega arith) z ∷ mixed_at 5 (omega arith) z ∷ [])
+
+  -- a word of the row, at its place of this step
+  again : (k : ℕ) → get_or (step32 i t) (place (i + 1) (k + 2)) 0 ≡ get_or (step32 i t) (place i k) 0
+  again k = ap (λ (n : ℕ). get_or (step32 i t) n 0) (sym (place_again i k))
+
+  row_shown : tab 6 (λ k. get_or (queued (i + 1) (step32 i t)) (k + 2) 0) ≡ row32 i (step32 i t)
+  unfolding queued row32 tab
+  row_shown = λ z. again 0 z ∷ again 1 z ∷ again 2 z ∷ again 3 z ∷ again 4 z ∷ again 5 z ∷ []
+
+  pub in_order : queued 0 t ≡ t
+  unfolding queued place tab
+  in_order = tab_is 8 (λ k. get_or t k 0) t size (λ k h. refl)
+
+pub steps_32 : {mixed : ℕ → List ℕ → List ℕ → Type 0} {shown : List ℕ → List ℕ → Type 0}
+    → ((d : ℕ) (t v : List ℕ) → mixed d t v → v ≡ get_or t 6 0 ∷ get_or t 7 0 ∷ mixed_row d 0 t)
+    → ((v r : List ℕ) → shown v r → r ≡ tab 6 (λ k. get_or v (k + 2) 0))
+    → StepsBy 8 mixed shown step32 row32 queued
+steps_32 m s = record {
+  mixes = λ i t v e p. m _ (queued i t) v p ∙ queue_more i t e;
+  shows = λ i t r e p. s _ r p ∙ row_shown i t e;
+  keeps = λ i t e. step_length i t ∙ e;
+}

@@ -1,5 +1,6 @@
 -- Turns of a word to the left, one after the other, are one turn by the sum of their counts.
-use Rattle.std.proofs.Common.{◌≡◌, ℕ, zero, suc, ◌+◌, ◌-◌, ◌*◌, ◌/◌, ◌%◌, ◌^◌, ◌<◌, sym, ap, ◌∙◌, subst, ap₂, mod-lt, mul_assoc, add-mul, arith, pow_pos, pow-add, shr-shr, shr_lt}
+use Rattle.std.proofs.Common.{◌≡◌, ℕ, zero, suc, ◌+◌, ◌-◌, ◌*◌, ◌/◌, ◌%◌, ◌^◌, ◌<◌, sym, ap, ◌∙◌, subst, ap₂, mod-lt, mul_assoc, add-mul, arith}
+use Rattle.std.proofs.Common.{pow_pos, pow-add, shr-shr, shr_lt}
 use native.Mathlib.Decide.{dec_lt}
 use lib.Arith.{digits_lt}
 use lib.Pow.{mod-pow-add}

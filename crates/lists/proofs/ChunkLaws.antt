@@ -64,7 +64,7 @@ tab_append m (suc n) f =
     let e : m + suc n ≡ suc (m + n) = omega arith in
     rw (e, tab_append m n f) (append_assoc (tab m f) (tab n (λ k. f (m + k))) (f (m + n) ∷ []))
 
-pub tab_chunks : (n s : ℕ) (f : ℕ → ℕ) → tab (n * s) f ≡ chunks n (λ k. tab s (λ i. f (k * s + i)))
+tab_chunks : (n s : ℕ) (f : ℕ → ℕ) → tab (n * s) f ≡ chunks n (λ k. tab s (λ i. f (k * s + i)))
 unfolding chunks
 tab_chunks zero s f = rw (zero-mul s) (unfold tab in refl)
 tab_chunks (suc n) s f =

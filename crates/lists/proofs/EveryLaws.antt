@@ -1,19 +1,14 @@
--- Laws of `every`: it is true exactly if each test is, and false where one is.
+-- Laws of `every`: it is true exactly if each test is.
 use mathlib.Core.Path.{◌≡◌, refl, ap, ap₂, ◌∙◌}
-use mathlib.Core.Bool.{Bool, true, false, ◌&&◌}
+use mathlib.Core.Bool.{Bool, true, ◌&&◌}
 use mathlib.Core.Logic.{◌⊎◌, inl, inr}
 use Prim.Native.Nat.{ℕ, zero, suc, ◌+◌, ◌<◌}
 use native.Mathlib.Nat.{le_of_suc-le-suc, not-suc-le-zero, le_refl, eq-or-lt_of_le}
 use native.Mathlib.Numerals.{add-one}
 use native.Mathlib.Omega.{arith}
 use Rattle.lists.specs.Every.{every}
-
-pub and_true : (a b : Bool) → a && b ≡ true → (a ≡ true) × (b ≡ true)
-and_true true b e = (refl, e)
-and_true false b e = let z : ◌≡◌ {A = ℕ} 0 1 = cc in absurd (omega arith)
-
-pub true_and : (a b : Bool) → a ≡ true → b ≡ true → a && b ≡ true
-true_and a b d e = rw (d, e)
+-- of two tests, as the library has it
+pub use Rattle.std.proofs.lemmas.Bool.{and_parts as and_true, and_from as true_and}
 
 pub every_more : (n : ℕ) (p : ℕ → Bool) → every (n + 1) p ≡ every n p && p n
 unfolding every
@@ -34,14 +29,6 @@ pub all_every : (n : ℕ) (p : ℕ → Bool) → ((i : ℕ) → i < n → p i �
 unfolding every
 all_every zero p h = refl
 all_every (suc n) p h = true_and (every n p) (p n) (all_every n p (λ i l. h i (omega arith))) (h n (le_refl (suc n)))
-
--- one test that fails
-pub every_not : (n : ℕ) (p : ℕ → Bool) (i : ℕ) → i < n → p i ≡ false → every n p ≡ false
-every_not n p i h e = go (every n p) refl
-  where
-    go : (b : Bool) → every n p ≡ b → every n p ≡ false
-    go false d = d
-    go true d = let t = every_all n p d i h in let z : ◌≡◌ {A = ℕ} 0 1 = cc in absurd (omega arith)
 
 pub every_ext : (n : ℕ) (p q : ℕ → Bool) → ((i : ℕ) → i < n → p i ≡ q i) → every n p ≡ every n q
 unfolding every

@@ -49,7 +49,7 @@ nib_joined (suc n) f h (suc j) k =
     ap (λ (x : ℕ). half_byte x j) e ∙ nib_joined n (λ i. f (suc i)) (λ i l. h (suc i) (suc-le-suc l)) j (le_of_suc-le-suc k)
 
 -- two numbers of n half bytes are equal when their half bytes are
-pub half_ext : (n a b : ℕ) → a < 16 ^ n → b < 16 ^ n → ((j : ℕ) → j < n → half_byte a j ≡ half_byte b j) → a ≡ b
+half_ext : (n a b : ℕ) → a < 16 ^ n → b < 16 ^ n → ((j : ℕ) → j < n → half_byte a j ≡ half_byte b j) → a ≡ b
 unfolding half_byte
 half_ext zero a b ha hb h = omega arith
 half_ext (suc n) a b ha hb h =
@@ -57,10 +57,10 @@ half_ext (suc n) a b ha hb h =
     let lb : b / 16 < 16 ^ n = (div-lt_iff_lt-mul (zero-lt-suc 15)).1 (rw pow-suc at hb) in
     omega (arith, h zero (zero-lt-suc n), half_ext n (a / 16) (b / 16) la lb (λ j k. h (suc j) (suc-le-suc k)))
 
-pub word_half_byte : (n w : ℕ) → w < 16 ^ n → joined n (half_byte w) ≡ w
+word_half_byte : (n w : ℕ) → w < 16 ^ n → joined n (half_byte w) ≡ w
 word_half_byte n w h = half_ext n (joined n (half_byte w)) w (joined_lt n (half_byte w) (λ j k. half_lt w j)) h (nib_joined n (half_byte w) (λ j k. half_lt w j))
 
-pub joined_ext : (n : ℕ) (f g : ℕ → ℕ) → ((j : ℕ) → j < n → f j ≡ g j) → joined n f ≡ joined n g
+joined_ext : (n : ℕ) (f g : ℕ → ℕ) → ((j : ℕ) → j < n → f j ≡ g j) → joined n f ≡ joined n g
 unfolding joined
 joined_ext zero f g h = refl
 joined_ext (suc n) f g h =

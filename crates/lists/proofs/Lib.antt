@@ -10,3 +10,5 @@ pub mod XorLaws
 pub mod RefusalLaws
 pub mod OrderLaws
 pub mod EveryLaws
+pub mod FromFnLaws
+pub mod AllLaws

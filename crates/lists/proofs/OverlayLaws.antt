@@ -3,16 +3,10 @@ use mathlib.Core.Path.{◌≡◌, sym, ap, ap₂, ◌∙◌}
 use mathlib.Core.List.{List, [], ◌++◌, append_assoc, append-nil}
 use Prim.Native.Nat.{ℕ, ◌+◌, ◌≤◌}
 use native.Mathlib.Omega.{arith}
-use lib.ListN.{length, take, drop, length-append, take-append-drop, length-drop}
+use lib.ListN.{length, take, drop, length-append, take-append-drop}
 use lib.Seq.{length-take-le}
 use Rattle.lists.specs.Overlay.{overlaid}
 use Rattle.lists.proofs.PartLaws.{put_more}
-
-pub length_overlaid : (d : List ℕ) (at : ℕ) (b : List ℕ) → at + length b ≤ length d → length (overlaid d at b) ≡ length d
-length_overlaid d at b h =
-    length-append (take at d ++ b) (drop (at + length b) d)
-    ∙ ap₂ ◌+◌ (length-append (take at d) b ∙ ap (λ (j : ℕ). j + length b) (length-take-le at d (omega arith))) (length-drop (at + length b) d)
-    ∙ (omega arith)
 
 pub nothing_overlaid : (d : List ℕ) (at : ℕ) (b : List ℕ) → b ≡ [] → d ≡ overlaid d at b
 nothing_overlaid d at b e =

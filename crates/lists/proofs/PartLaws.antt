@@ -7,9 +7,9 @@ use native.Mathlib.Nat.{le_of_eq, add-sub_cancel_left}
 use native.Mathlib.Numerals.{add-one}
 use native.Mathlib.Omega.{arith}
 use lib.ListN.{length, take, drop, get_or, set, replicate, length-drop, drop_of_length-le}
-use lib.Seq.{drop-cons, set_at, drop-drop, take_at, drop_at, length-take-le, append_snoc, take_all, get_or-take, get_or-drop, paste, paste-suc}
+use lib.Seq.{get_or-take, get_or-drop, drop-cons, set_at, drop-drop, take_at, drop_at, length-take-le, append_snoc, take_all}
 use Rattle.lists.specs.Tabulation.{tab, chunks}
-use Rattle.lists.proofs.TabulationLaws.{tab_more, length_tab, tab_is}
+use Rattle.lists.proofs.TabulationLaws.{tab_more, length_tab}
 use Rattle.lists.proofs.ChunkLaws.{chunks_more, length_chunks}
 
 -- p is written and the rest of d is as it was: one element more
@@ -50,6 +50,10 @@ chunks_turn g s h d₀ d q k a e w v =
 pub length_part : (d : List ℕ) (a s : ℕ) → a + s ≤ length d → length (take (a + s - a) (drop a d)) ≡ s
 length_part d a s h = rw (add-sub_cancel_left a s) (length-take-le s (drop a d) (rw (length-drop a d) (omega arith)))
 
+-- and an element of that part
+pub get_or_part : (d : List ℕ) (a s k : ℕ) → k < s → get_or (take (a + s - a) (drop a d)) k 0 ≡ get_or d (a + k) 0
+get_or_part d a s k h = rw (add-sub_cancel_left a s) (get_or-take s (drop a d) k 0 h ∙ get_or-drop a d k 0)
+
 pub chunks_full : (g : ℕ → List ℕ) (d₀ d : List ℕ) (n k a : ℕ) → d ≡ chunks k g ++ drop a d₀ → k ≡ n → length d₀ ≤ a → d ≡ chunks n g
 chunks_full g d₀ d n k a e h l = e ∙ rw h (grown_whole (chunks n g) d₀ a l)
 
@@ -69,24 +73,6 @@ pub fill_full : (f : ℕ → ℕ) (n : ℕ) (d : List ℕ) (i : ℕ) → d ≡ t
 fill_full f n d i e h =
     let k : n - i ≡ 0 = omega arith in
     e ∙ rw (k, append-nil, h)
-
--- a part of a list read element by element
-pub tab_part : (s : List ℕ) (at n : ℕ) → at + n ≤ length s → tab n (λ k. get_or s (at + k) 0) ≡ take n (drop at s)
-tab_part s at n h =
-    tab_is n (λ k. get_or s (at + k) 0) (take n (drop at s)) (length-take-le n (drop at s) (rw length-drop (omega arith)))
-    (λ k l. sym (get_or-take n (drop at s) k 0 l ∙ get_or-drop at s k 0))
-
--- a loop that copies the first n of b into d element by element, from a place on
-pub paste_turn : (d₀ d b : List ℕ) (at n k : ℕ) → at + n ≤ length d₀ → k < n → n ≤ length b → d ≡ paste d₀ at b k
-    → set d (at + k) (get_or b k 0) ≡ paste d₀ at b (k + 1)
-paste_turn d₀ d b at n k h hk l e =
-    ap (λ (l : List ℕ). set l (at + k) (get_or b k 0)) e
-    ∙ paste-suc d₀ at b k 0 (omega arith) (omega arith)
-    ∙ ap (λ (j : ℕ). paste d₀ at b j) (sym (add-one k))
-
-pub paste_full : (d₀ d b : List ℕ) (at n k : ℕ) → d ≡ paste d₀ at b k → k ≡ n → length b ≡ n → d ≡ take at d₀ ++ b ++ drop (at + n) d₀
-paste_full d₀ d b at n k e f l =
-    e ∙ ap (λ (j : ℕ). paste d₀ at b j) f ∙ ap (λ (q : List ℕ). take at d₀ ++ q ++ drop (at + n) d₀) (take_all n b (omega arith))
 
 -- b put over what stands from n on, where p is written so far
 pub put_more : (p d out b : List ℕ) (n s : ℕ) → length p ≡ n → out ≡ p ++ drop n d → take n out ++ b ++ drop (n + s) out ≡ (p ++ b) ++ drop (n + s) d

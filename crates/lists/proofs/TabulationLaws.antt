@@ -47,7 +47,7 @@ tab_below b n f p h k = go (dec_lt k n)
     go (yes m) = rw (get_or_tab n f k m) (h k m)
     go (no m) = rw (get_or-eq_default (tab n f) 0 {n = k} (rw (length_tab n f) (omega arith))) p
 
--- `d` again and again
+-- `d` again and again, past the end too (the library's `get_or-replicate` asks for a place in the list)
 pub get_d_replicate : (n d k : ℕ) → get_or (replicate n d) k d ≡ d
 get_d_replicate zero d k = refl
 get_d_replicate (suc n) d zero = refl

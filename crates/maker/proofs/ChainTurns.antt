@@ -1,52 +1,28 @@
 -- One turn of each loop over the parts of a chain, and what the parts that draw nothing use, over plain variables.
 use mathlib.Core.Path.{◌≡◌, refl, sym, ap, ◌∙◌}
 use mathlib.Core.Bool.{Bool, true, false, cond}
-use mathlib.Core.List.{List, ◌++◌, append_assoc}
+use mathlib.Core.List.{List, ◌++◌}
 use Prim.Native.Nat.{ℕ, ◌+◌, ◌-◌, ◌*◌, ◌%◌, ◌≤◌, ◌<◌}
-use native.Mathlib.Nat.{le_of_eq, add-sub_cancel_left}
-use native.Mathlib.Numerals.{add-one}
+use native.Mathlib.Nat.{zero-add}
 use native.Mathlib.Omega.{arith}
 use lib.ListN.{length, get_or, take, drop, length-drop}
-use lib.Seq.{drop-drop, get_or-drop, drop-append-le, take-append-le}
+use lib.Seq.{get_or-drop, drop-append-le, take-append-le}
 use Rattle.lists.specs.Tabulation.{chunks}
 use Rattle.lists.proofs.ChunkLaws.{chunks_more, length_chunks, chunk_at}
-use Rattle.lists.proofs.PartLaws.{put_more, grown_whole}
+use Rattle.lists.proofs.PartLaws.{put_more}
 use Rattle.coding_maker.specs.Draw.{coding_from, coding_draws}
 use Rattle.maker.specs.Plan.{Plan, TwoWords, fixed_coding, source, given_coding, undrawn}
 use Rattle.coding_maker.specs.Parts.{begins, left}
 use Rattle.maker.specs.MadeChain.{set_use, free_coding, set_coding, middle_use, middles_draw, middles_from, mask_from, masks_from, round_draws}
 use Rattle.maker.specs.MadeChain.{round_from, sets_draw, sets_from, rounds_draw, rounds_from, chain_draws, chain_made}
-use Rattle.coding_maker.proofs.DrawCounts.{Within, within_coding, within_begins}
-use Rattle.coding_maker.proofs.DrawTurns.{near}
+use Rattle.coding_maker.specs.Source.{rest, past}
+use Rattle.coding_maker.specs.declared.draw.Source.{Source}
+use Rattle.coding_maker.proofs.DrawCounts.{Within, after, within_coding, within_begins}
+use Rattle.coding_maker.proofs.SourceLaws.{rest_past, past_past}
 use Rattle.maker.proofs.Places.{source_free, source_fixed, source_lt, free_source}
 use Rattle.maker.proofs.ChainValid.{coding_of, length_set_coding, set_same}
 
--- ---- parts in order
-
-module _ (u : ℕ → List ℕ → ℕ) (s : List ℕ) (from at k : ℕ) (e : at ≡ from + begins u k (drop from s)) where
-  -- what is left for part k
-  pub left_at : left u k (drop from s) ≡ drop at s
-  left_at = drop-drop (begins u k (drop from s)) from s ∙ ap (λ (n : ℕ). drop n s) (sym e)
-
-  pub begins_turn : (a : ℕ) → a ≡ at + u k (drop at s) → a ≡ from + begins u (k + 1) (drop from s)
-  unfolding begins
-  begins_turn a q =
-      let d = ap (u k) left_at in
-      let m = ap (λ (n : ℕ). begins u n (drop from s)) (add-one k) in
-      omega arith
-
--- the same from the first byte on
-pub begins_more : (u : ℕ → List ℕ → ℕ) (s : List ℕ) (at k a : ℕ) → at ≡ begins u k s → a ≡ at + u k (drop at s) → a ≡ begins u (k + 1) s
-unfolding begins
-begins_more u s at k a e q = q ∙ ap (λ (n : ℕ). n + u k (drop n s)) e ∙ ap (λ (n : ℕ). begins u n s) (sym (add-one k))
-
-pub begins_none : (u : ℕ → List ℕ → ℕ) (s : List ℕ) (from : ℕ) → from ≡ from + begins u 0 s
-unfolding begins
-begins_none u s from = omega arith
-
-pub begins_near : (m : ℕ) (u : ℕ → List ℕ → ℕ) → ((k : ℕ) → Within m (u k)) → (s : List ℕ) (from at k : ℕ) → at ≡ from + begins u k (drop from s)
-    → at ≤ from + (length s - from) + k * m
-begins_near m u h s from at k e = let b = near (k * m) (begins u k) (within_begins m u h k) s from in omega arith
+-- ---- what goes how far past the end
 
 pub within_set : (p : Plan) (k : ℕ) → Within 15 (set_use p k)
 unfolding set_use
@@ -117,9 +93,6 @@ pub written_none : (g : ℕ → List ℕ) (d : List ℕ) → d ≡ chunks 0 g ++
 unfolding chunks
 written_none g d = refl
 
-pub written_all : (g : ℕ → List ℕ) (d₀ d : List ℕ) (n k : ℕ) → d ≡ chunks k g ++ drop (16 * k) d₀ → k ≡ n → length d₀ ≡ n * 16 → d ≡ chunks n g
-written_all g d₀ d n k e h l = e ∙ rw h (grown_whole (chunks n g) d₀ (16 * n) (omega arith))
-
 module _ (p : Plan) where
   set_free : (s : List ℕ) (k : ℕ) → fixed_coding p k ≡ false → free_coding p k (left (set_use p) k s) ≡ set_coding p s k
   unfolding set_coding
@@ -139,50 +112,38 @@ module _ (p : Plan) where
           ∙ set_same p s (source p k) k (source_free p (source p k) (free_source p w k))
       go false f y = y ∙ ap (λ (n : ℕ). free_coding p k (drop n s)) e ∙ set_free s k f
 
-  -- what stands in the place of coding k, where it is fixed and where it is free
+  -- what stands in the place of coding k, where it is fixed
   module _ (k : ℕ) (out x y : List ℕ) where
     pub place_fixed : fixed_coding p k ≡ true → x ≡ coding_of out (k + 8 * p.from - (32 + 8 * p.to)) → x ≡ cond (fixed_coding p k) (coding_of out (source p k)) y
     place_fixed f e = e ∙ ap (coding_of out) (sym (source_fixed p k f)) ∙ ap (λ (b : Bool). cond b (coding_of out (source p k)) y) (sym f)
 
-    pub place_free : fixed_coding p k ≡ false → x ≡ y → x ≡ cond (fixed_coding p k) (coding_of out (source p k)) y
-    place_free f e = e ∙ ap (λ (b : Bool). cond b (coding_of out (source p k)) y) (sym f)
-
--- a coding that is written over a buffer of its length
-pub put_whole : (out x : List ℕ) → length out ≡ 16 → take 0 out ++ x ++ drop (0 + 16) out ≡ x
-put_whole out x l = grown_whole x out 16 (le_of_eq l)
-
--- and one that is written into a part that was lent, `&mut out[a..a + 16]`
-pub put_lent : (out x : List ℕ) (a : ℕ) → take a out ++ (x ++ drop (a + 16 - a) (drop a out)) ≡ take a out ++ x ++ drop (a + 16) out
-put_lent out x a =
-    rw (add-sub_cancel_left a 16) (ap (λ (y : List ℕ). take a out ++ (x ++ y)) (drop-drop 16 a out) ∙ sym (append_assoc (take a out) x (drop (a + 16) out)))
-
 -- ---- the whole
 
 -- the masks of a round are drawn behind its middle codings
-pub round_draws_in : (s : List ℕ) (from m : ℕ) → m ≡ from + middles_draw (drop from s) → m + 24 ≡ from + round_draws (drop from s)
+pub round_past : (s : Source) → past (λ t. 24) (past middles_draw s) ≡ past round_draws s
 unfolding round_draws
-round_draws_in s from m e = omega arith
+round_past s = past_past middles_draw (λ t. 24) s
 
-pub round_from_in : (s x y : List ℕ) (from m : ℕ) → m ≡ from + middles_draw (drop from s) → x ≡ middles_from (drop from s) → y ≡ masks_from (drop m s)
-    → x ++ y ≡ round_from (drop from s)
+pub round_from_in : (s t : Source) (x y : List ℕ) → t ≡ past middles_draw s → x ≡ middles_from (rest s) → y ≡ masks_from (rest t) → x ++ y ≡ round_from (rest s)
 unfolding round_from
-round_from_in s x y from m e p q =
-    let d = drop-drop (middles_draw (drop from s)) from s ∙ ap (λ (k : ℕ). drop k s) (sym e) in
-    (λ i. p i ++ (q ∙ ap masks_from (sym d)) i)
+round_from_in s t x y e p q = λ i. p i ++ (q ∙ ap masks_from (ap rest e ∙ rest_past middles_draw s)) i
 
-module _ (p : Plan) (s : List ℕ) where
-  pub sets_size : (n : ℕ) (x : List ℕ) → x ≡ chunks n (set_coding p s) → length x ≡ n * 16
-  sets_size n x e = ap length e ∙ length_chunks (set_coding p s) 16 (length_set_coding p s) n
+module _ (p : Plan) where
+  pub sets_size : (s : List ℕ) (n : ℕ) (x : List ℕ) → x ≡ chunks n (set_coding p s) → length x ≡ n * 16
+  sets_size s n x e = ap length e ∙ length_chunks (set_coding p s) 16 (length_set_coding p s) n
 
   -- the rounds are drawn behind the sets; q is written for r
-  pub chain_drawn : (r q at n : ℕ) → q ≡ r → at ≡ begins (set_use p) (32 * (q + 2)) s → n ≡ at + rounds_draw q (drop at s) → n ≡ chain_draws p r s
-  unfolding chain_draws sets_draw
-  chain_drawn r q at n w e d =
-      d ∙ ap (λ (m : ℕ). m + rounds_draw q (drop m s)) e ∙ ap (λ (k : ℕ). begins (set_use p) (32 * (k + 2)) s + rounds_draw k (drop (begins (set_use p) (32 * (k + 2)) s) s)) w
+  module _ (random : List ℕ) (r q : ℕ) (s₀ s₁ : Source) (same : rest s₀ ≡ random) (w : q ≡ r) (e : s₁ ≡ past (begins (set_use p) (32 * (q + 2))) s₀) where
+    pub chain_drawn : (s₂ : Source) → s₀.at ≡ 0 → s₂ ≡ past (rounds_draw q) s₁ → s₂.at ≡ chain_draws p r random
+    unfolding chain_draws sets_draw
+    chain_drawn s₂ none d =
+        ap (λ (t : Source). t.at) (d ∙ ap (past (rounds_draw q)) e ∙ past_past (begins (set_use p) (32 * (q + 2))) (rounds_draw q) s₀)
+        ∙ ap (λ (n : ℕ). n + after (begins (set_use p) (32 * (q + 2))) (rounds_draw q) (rest s₀)) none
+        ∙ zero-add _
+        ∙ (λ i. after (begins (set_use p) (32 * (w i + 2))) (rounds_draw (w i)) (same i))
 
-  pub chain_made_lem : (r q at : ℕ) (x y : List ℕ) → q ≡ r → at ≡ begins (set_use p) (32 * (q + 2)) s → x ≡ chunks (32 * (q + 2)) (set_coding p s)
-      → y ≡ rounds_from q (drop at s) → x ++ y ≡ chain_made p r s
-  unfolding chain_made sets_draw sets_from
-  chain_made_lem r q at x y w e d o =
-      (λ i. d i ++ (o ∙ ap (λ (m : ℕ). rounds_from q (drop m s)) e) i)
-      ∙ ap (λ (k : ℕ). chunks (32 * (k + 2)) (set_coding p s) ++ rounds_from k (drop (begins (set_use p) (32 * (k + 2)) s) s)) w
+    pub chain_made_lem : (x y : List ℕ) → x ≡ chunks (32 * (q + 2)) (set_coding p (rest s₀)) → y ≡ rounds_from q (rest s₁) → x ++ y ≡ chain_made p r random
+    unfolding chain_made sets_draw sets_from
+    chain_made_lem x y d o =
+        (λ i. d i ++ (o ∙ ap (rounds_from q) (ap rest e ∙ rest_past (begins (set_use p) (32 * (q + 2))) s₀)) i)
+        ∙ (λ i. chunks (32 * (w i + 2)) (set_coding p (same i)) ++ rounds_from (w i) (drop (begins (set_use p) (32 * (w i + 2)) (same i)) (same i)))

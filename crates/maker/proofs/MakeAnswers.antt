@@ -1,5 +1,6 @@
 -- The answers of the chain maker, case by case. The cases exclude each other and leave none out.
-use mathlib.Core.Path.{◌≡◌, sym, ap, ◌∙◌}
+use mathlib.Core.Path.{◌≡◌, sym, ◌∙◌}
+use Rattle.std.proofs.Common.{Some, None}
 use mathlib.Core.Bool.{Bool}
 use mathlib.Core.List.{List, [], ◌∷◌, ◌++◌}
 use Prim.Native.Nat.{ℕ, ◌-◌, ◌≤◌, ◌<◌}
@@ -14,12 +15,9 @@ use Rattle.cipher.specs.Lengths.{set_length}
 use Rattle.cipher.specs.Coding.{Permutations, set_of}
 use Rattle.cipher.specs.Chain.{LoneSet, set_tests}
 use Rattle.cipher.specs.Answers.{set_checked}
-use Rattle.cipher.specs.Refusal.{number_of, outcome_of}
+use Rattle.cipher.specs.Refusal.{number_of}
 use Rattle.cipher.specs.declared.size.KeySize.{KeySize}
-use Rattle.cipher.specs.declared.size.SizeFound.TheVariants.{Found, Unknown}
 use Rattle.cipher.specs.declared.refusal.Refusal.{Refusal}
-use Rattle.cipher.specs.declared.refusal.Outcome.{Outcome}
-use Rattle.cipher.specs.declared.refusal.Outcome.TheVariants.{Refused}
 use Rattle.cipher.proofs.AnswerLaws.{length_refused, length_taken, number_more}
 use Rattle.cipher.proofs.ChainRefusals.{set_length_refused, set_coding_refused, set_taken}
 use Rattle.cipher.proofs.CheckLaws.{told_refused}
@@ -76,12 +74,12 @@ module _ (p : Plan) (z : KeySize) (random out : List ℕ) where
 -- ---- a chain
 
 module _ (n : ℕ) (random out : List ℕ) where
-  pub make_key : size_of_key n ≡ Unknown → make_answer n random out ≡ ((1, 0), out)
+  pub make_key : size_of_key n ≡ None → make_answer n random out ≡ ((1, 0), out)
   unfolding made_into make_tests
   make_key e = length_refused n (λ z. drawn sealing z random out) (refuse out) (λ z. done sealing z random out) e
 
   -- otherwise what making says for the key's size
-  pub make_sized : (z : KeySize) → size_of_key n ≡ Found z → make_answer n random out ≡ made_into (draw_tests sealing z random out) sealing z random out
+  pub make_sized : (z : KeySize) → size_of_key n ≡ Some z → make_answer n random out ≡ made_into (draw_tests sealing z random out) sealing z random out
   unfolding made_into make_tests
   make_sized z e = length_taken n (λ z. drawn sealing z random out) (refuse out) (λ z. done sealing z random out) z e
 
@@ -94,11 +92,11 @@ module _ (n : ℕ) (set random out : List ℕ) where
   abbrev made : KeySize → Answer
   made z = done (reading set) z random out
 
-  pub reading_key : size_of_key n ≡ Unknown → make_reading_answer n set random out ≡ ((1, 0), out)
+  pub reading_key : size_of_key n ≡ None → make_reading_answer n set random out ≡ ((1, 0), out)
   unfolding made_into make_reading_tests
   reading_key e = length_refused n (λ z. set_tests set ++ rest z) (refuse out) made e
 
-  module _ (z : KeySize) (e : size_of_key n ≡ Found z) where
+  module _ (z : KeySize) (e : size_of_key n ≡ Some z) where
     keyed : make_reading_answer n set random out ≡ first (set_tests set ++ rest z) (refuse out) (made z)
     unfolding made_into make_reading_tests
     keyed = length_taken n (λ z. set_tests set ++ rest z) (refuse out) made z e
@@ -110,8 +108,8 @@ module _ (n : ℕ) (set random out : List ℕ) where
     reading_set_coding h b = keyed ∙ set_coding_refused (rest z) (refuse out) (made z) set h b
 
     -- both, as the check of the set tells them
-    pub reading_set : (r : Outcome) → outcome_of r ≡ set_checked set → (q : Refusal) → r ≡ Refused q → make_reading_answer n set random out ≡ ((number_of q, 0), out)
-    reading_set r er q d = keyed ∙ told_refused (rest z) (refuse out) (made z) (set_tests set) (number_of q) (number_more q) (sym er ∙ ap outcome_of d)
+    pub reading_set : (q : Refusal) → number_of q ≡ set_checked set → make_reading_answer n set random out ≡ ((number_of q, 0), out)
+    reading_set q e = keyed ∙ told_refused (rest z) (refuse out) (made z) (set_tests set) (number_of q) (number_more q) (sym e)
 
     -- otherwise what making says for the key's size
     pub reading_sized : LoneSet set → make_reading_answer n set random out ≡ made_into (draw_tests (reading set) z random out) (reading set) z random out

@@ -61,8 +61,11 @@ module _ (p : Plan) where
             rw (source_fixed k e) (coding_free (k + 8 * p.from - (32 + 8 * p.to)) (λ f. w.2 (omega (arith, w.0, w.1, h.0, h.1))))
         go false e = rw (source_free k e) e
 
+    pub fixed_room : (k : ℕ) → fixed_coding p k ≡ true → (32 + 8 * p.to ≤ k + 8 * p.from) × (k + 8 * p.from - (32 + 8 * p.to) < k)
+    fixed_room k e = let h = fixed_known k e in (omega (arith, w.0, w.1, h.0), omega (arith, w.0, w.1, h.0))
+
     pub source_lt : (k : ℕ) → fixed_coding p k ≡ true → source p k < k
-    source_lt k e = let h = fixed_known k e in rw (source_fixed k e) (omega (arith, w.0, w.1, h.0))
+    source_lt k e = rw (source_fixed k e) (fixed_room k e).1
 
     pub source_le : (k : ℕ) → source p k ≤ k
     source_le k = go (fixed_coding p k) refl

@@ -1,12 +1,11 @@
 -- What is claimed of the chain maker (document 02, 2026-03): what is made is always a valid chain, the count of bytes is exact, and every
 -- permutation, and every valid chain, comes out of some bytes.
-use Rattle.std.specs.Prelude.{◌≡◌, List, ◌++◌, ℕ, ◌≤◌, ◌<◌, length, take, drop}
+use Rattle.std.specs.Prelude.{◌≡◌, Some, None, List, ◌++◌, ℕ, ◌≤◌, ◌<◌, length, take, drop}
 use Rattle.cipher.specs.KeySize.{rounds, key_length, chain_length, size_of_key}
 use Rattle.cipher.specs.Lengths.{set_length}
 use Rattle.cipher.specs.Coding.{Permutations, set_of}
 use Rattle.cipher.specs.Chain.{Chain, ChainBy, LoneSet}
 use Rattle.cipher.specs.declared.size.KeySize.{KeySize}
-use Rattle.cipher.specs.declared.size.SizeFound.TheVariants.{Found, Unknown}
 use Rattle.coding_maker.specs.Laws.{ComesOut, CodingLaws}
 use Rattle.maker.specs.Plan.{sealing, reading}
 use Rattle.maker.specs.MadeChain.{chain_draws, chain_made}
@@ -45,9 +44,9 @@ pub record MakerLaws : Type 0 where
   -- every valid reading chain has a set 0 that can be given, so that each comes out
   pub first_sets : (z : KeySize) (ch : List ℕ) → ChainBy 3 0 z ch → LoneSet (take set_length (drop set_length ch))
   -- what is refused before: 1 for a key of no known size, 2 and 3 for the set that is given
-  pub no_key : (n : ℕ) (random out : List ℕ) → size_of_key n ≡ Unknown → make_answer n random out ≡ ((1, 0), out)
-  pub reading_no_key : (n : ℕ) (set random out : List ℕ) → size_of_key n ≡ Unknown → make_reading_answer n set random out ≡ ((1, 0), out)
-  pub length_of_set : (z : KeySize) (n : ℕ) (set random out : List ℕ) → size_of_key n ≡ Found z → (length set ≡ set_length → ⊥)
+  pub no_key : (n : ℕ) (random out : List ℕ) → size_of_key n ≡ None → make_answer n random out ≡ ((1, 0), out)
+  pub reading_no_key : (n : ℕ) (set random out : List ℕ) → size_of_key n ≡ None → make_reading_answer n set random out ≡ ((1, 0), out)
+  pub length_of_set : (z : KeySize) (n : ℕ) (set random out : List ℕ) → size_of_key n ≡ Some z → (length set ≡ set_length → ⊥)
       → make_reading_answer n set random out ≡ ((2, 0), out)
-  pub coding_of_set : (z : KeySize) (n : ℕ) (set random out : List ℕ) → size_of_key n ≡ Found z → length set ≡ set_length → (Permutations (set_of set) → ⊥)
+  pub coding_of_set : (z : KeySize) (n : ℕ) (set random out : List ℕ) → size_of_key n ≡ Some z → length set ≡ set_length → (Permutations (set_of set) → ⊥)
       → make_reading_answer n set random out ≡ ((3, 0), out)

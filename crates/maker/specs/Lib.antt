@@ -1,4 +1,5 @@
 pub mod Plan
+pub mod Planned
 pub mod MadeChain
 pub mod Answers
 pub mod Laws

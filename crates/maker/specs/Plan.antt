@@ -2,7 +2,6 @@
 -- 0 to r are counted as they stand: U has those from 0 on, set l those from 32 * (l + 1) on.
 use Rattle.std.specs.Prelude.{◌≢◌, Bool, cond, ◌&&◌, ◌||◌, List, [], ℕ, ◌+◌, ◌-◌, ◌*◌, ◌/◌, ◌%◌, ◌<◌, leb, ltb, eqb, length}
 use Rattle.cipher.specs.Lengths.{coding_length}
-use Rattle.maker.specs.declared.plan.Rule.{Rule}
 
 -- word `to` of each set from 1 on is coded as word `from` of the set before; of set 0 the codings in `given` are given
 pub record Plan : Type 0 where
@@ -13,9 +12,6 @@ pub record Plan : Type 0 where
 -- what the two words must be
 abbrev pub TwoWords : ℕ → ℕ → Type 0
 TwoWords from to = (from < 4) × (to < 4) × (from ≢ to)
-
-abbrev pub planned : Rule → List ℕ → Plan
-planned rule set = record { from = rule.from; to = rule.to; given = set }
 
 -- a chain of document 01: the word 3 rule, and nothing is given
 abbrev pub sealing : Plan

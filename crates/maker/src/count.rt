@@ -1,79 +1,78 @@
 // How many bytes the draws of a chain need (document 02, 2026-03). Nothing is written here: which bytes
-// are skipped is decided by the bytes and their order alone. Each function gives the place of the first
-// byte that is left; table is that of `coding_maker`. Places behind the end are bounded as there.
-ghost use Rattle.std.specs.Prelude.{◌≡◌, ◌+◌, ◌≤◌, length, drop};
-ghost use Rattle.coding_maker.specs.Numbers.{number_table};
+// are skipped is decided by the bytes and their order alone. Each function but the last moves a source
+// on; places behind the end are bounded as in `coding_maker`. That fill.rt has one beside each is kept: they
+// differ in what is done with a number, not in a type or a size, and one over both would need laws for that.
+ghost use Rattle.std.specs.Prelude.{◌≡◌, ◌≤◌};
 ghost use Rattle.coding_maker.specs.Parts.{begins};
-ghost use Rattle.maker.specs.Plan.{planned};
+ghost use Rattle.coding_maker.specs.Source.{past, Near};
+ghost use Rattle.maker.specs.Planned.{planned};
 ghost use Rattle.maker.specs.MadeChain as M;
 
-use crate::plan::{Rule, fixed_coding, given_coding};
+use crate::plan::Plan;
 use cipher::lengths;
-use coding_maker::draw::coding_draws;
+use coding_maker::draw::Source;
+use coding_maker::numbers::Numbers;
 
 // Behind the draws of coding k of U and the sets.
-fn set_use(table: &[u8], random: &[u8], start: usize, rule: Rule, set: &[u8], k: usize) -> usize
-    requires { (table.now ≡ number_table) × (start ≤ length random.now + 1000000) }
-    ensures { result ≡ start + M.set_use (planned rule set.now) k (drop start random.now) }
+fn set_use(source: &mut Source, plan: &Plan, k: usize)
+    requires { Near 1000000 source.old }
+    ensures { source.new ≡ past (M.set_use (planned plan.now) k) source.old }
 {
-    if fixed_coding(rule, k) {
-        return start;
+    if plan.fixes(k) {
+        return;
     }
-    if given_coding(set, k) {
-        return start;
+    if plan.gives(k) {
+        return;
     }
-    coding_draws(table, random, start)
+    source.coding_draws();
 }
 
 // Behind those of the first n codings of U and the sets.
-fn sets_draw(table: &[u8], random: &[u8], rule: Rule, set: &[u8], n: usize) -> usize
-    requires { (table.now ≡ number_table) × (n ≤ 1088) }
-    ensures { result ≡ begins (M.set_use (planned rule set.now)) n random.now }
+fn sets_draw(source: &mut Source, plan: &Plan, n: usize)
+    requires { (n ≤ 1088) × Near 0 source.old }
+    ensures { source.new ≡ past (begins (M.set_use (planned plan.now)) n) source.old }
 {
-    let mut at: usize = 0;
     for k in 0..n {
-        at = set_use(table, random, at, rule, set, k);
+        set_use(source, plan, k);
     }
-    at
 }
 
 // Behind those of the middle codings of a round.
-fn middles_draw(table: &[u8], random: &[u8], start: usize) -> usize
-    requires { (table.now ≡ number_table) × (start ≤ length random.now + 100000) }
-    ensures { result ≡ start + M.middles_draw (drop start random.now) }
+fn middles_draw(source: &mut Source)
+    requires { Near 100000 source.old }
+    ensures { source.new ≡ past M.middles_draw source.old }
 {
-    let mut at = start;
-    for k in 0..lengths::MIDDLES {
-        at = coding_draws(table, random, at);
+    for _ in 0..lengths::MIDDLES {
+        source.coding_draws();
     }
-    at
 }
 
 // Behind those of a round: a byte for each mask.
-fn round_draws(table: &[u8], random: &[u8], start: usize) -> usize
-    requires { (table.now ≡ number_table) × (start ≤ length random.now + 100000) }
-    ensures { result ≡ start + M.round_draws (drop start random.now) }
+fn round_draws(source: &mut Source)
+    requires { Near 100000 source.old }
+    ensures { source.new ≡ past M.round_draws source.old }
 {
-    middles_draw(table, random, start) + lengths::MIDDLES
+    middles_draw(source);
+    source.skip(lengths::MIDDLES);
 }
 
 // Behind those of r rounds.
-fn rounds_draw(table: &[u8], random: &[u8], start: usize, r: usize) -> usize
-    requires { (table.now ≡ number_table) × (r ≤ 32) × (start ≤ length random.now + 50000) }
-    ensures { result ≡ start + M.rounds_draw r (drop start random.now) }
+fn rounds_draw(source: &mut Source, r: usize)
+    requires { (r ≤ 32) × Near 50000 source.old }
+    ensures { source.new ≡ past (M.rounds_draw r) source.old }
 {
-    let mut at = start;
-    for l in 0..r {
-        at = round_draws(table, random, at);
+    for _ in 0..r {
+        round_draws(source);
     }
-    at
 }
 
 // How many bytes a chain of r rounds draws.
-pub fn chain_draws(table: &[u8], random: &[u8], rule: Rule, set: &[u8], r: usize) -> usize
-    requires { (table.now ≡ number_table) × (r ≤ 32) }
-    ensures { result ≡ M.chain_draws (planned rule set.now) r random.now }
+pub fn chain_draws(numbers: &Numbers, random: &[u8], plan: &Plan, r: usize) -> usize
+    requires { r ≤ 32 }
+    ensures { result ≡ M.chain_draws (planned plan.now) r random.now }
 {
-    let sets = sets_draw(table, random, rule, set, lengths::SET_CODINGS * (r + 2));
-    rounds_draw(table, random, sets, r)
+    let mut source = Source::new(numbers, random);
+    sets_draw(&mut source, plan, lengths::SET_CODINGS * (r + 2));
+    rounds_draw(&mut source, r);
+    source.drawn()
 }

@@ -1,146 +1,103 @@
 // The parts of a chain, drawn into a buffer in the order in which they stand (document 02, 2026-03). Each
-// function that draws gives the place of the first byte that is left; table is that of `coding_maker`.
-ghost use Rattle.std.specs.Prelude.{◌≡◌, cond, false, ◌++◌, ◌+◌, ◌*◌, ◌≤◌, length, get_or, take, drop};
+// function that draws moves a source on.
+ghost use Rattle.std.specs.Prelude.{◌≡◌, cond, false, ◌++◌, ◌+◌, ◌*◌, ◌≤◌, length, take, drop};
 ghost use Rattle.lists.specs.Tabulation.{chunks};
 ghost use Rattle.cipher.specs.Lengths.{coding_length, middles_length, round_codings_length};
-ghost use Rattle.coding_maker.specs.Numbers.{number_table};
 ghost use Rattle.coding_maker.specs.Parts.{begins};
-ghost use Rattle.maker.specs.Plan.{TwoWords, planned, source, fixed_coding};
+ghost use Rattle.coding_maker.specs.Source.{rest, past, Near};
+ghost use Rattle.maker.specs.Plan as P;
+ghost use Rattle.maker.specs.Planned.{planned};
 ghost use Rattle.maker.specs.MadeChain as M;
 
-use crate::plan::{Rule, fixed_coding, given_coding};
+use crate::plan::Plan;
 use cipher::block::{block_at, put_block};
 use cipher::lengths;
-use coding_maker::draw::draw_coding;
+use coding_maker::draw::Source;
 
-// Coding k of U and the sets where the word rule does not fix it, given in set or drawn, into out.
-fn free_coding(
-    table: &[u8],
-    random: &[u8],
-    start: usize,
-    rule: Rule,
-    set: &[u8],
-    k: usize,
-    out: &mut [u8],
-) -> usize
-    requires { (table.now ≡ number_table) × (start ≤ length random.now + 1000000) × (k ≤ 1088) × (length out.old ≡ coding_length) × (fixed_coding (planned rule set.now) k ≡ false) }
-    ensures { (result ≡ start + M.set_use (planned rule set.now) k (drop start random.now)) × (out.new ≡ M.free_coding (planned rule set.now) k (drop start random.now)) }
+// Coding k of U and the sets where the word rule does not fix it, given or drawn, into out.
+fn free_coding(source: &mut Source, plan: &Plan, k: usize, out: &mut [u8])
+    requires { Near 1000000 source.old × (k ≤ 1088) × (length out.old ≡ coding_length) × (P.fixed_coding (planned plan.now) k ≡ false) }
+    ensures { (source.new ≡ past (M.set_use (planned plan.now) k) source.old) × (out.new ≡ M.free_coding (planned plan.now) k (rest source.old)) }
 {
-    if given_coding(set, k) {
-        let coding = block_at(set, lengths::CODING * (k - lengths::SET_CODINGS));
-        put_block(out, 0, coding);
-        return start;
+    if plan.gives(k) {
+        let a = lengths::CODING * (k - lengths::SET_CODINGS);
+        out.copy_from_slice(&plan.given[a..a + lengths::CODING]);
+        return;
     }
-    draw_coding(table, random, start, out)
+    source.draw_coding(out);
 }
 
 // Coding k of U and the sets, into its place in out: taken over from the set before, or free.
-fn set_coding(
-    table: &[u8],
-    random: &[u8],
-    start: usize,
-    rule: Rule,
-    set: &[u8],
-    k: usize,
-    out: &mut [u8],
-) -> usize
-    requires { (table.now ≡ number_table) × (start ≤ length random.now + 1000000) × TwoWords rule.from rule.to × (k ≤ 1088) × (coding_length * k + coding_length ≤ length out.old) }
-    ensures { (result ≡ start + M.set_use (planned rule set.now) k (drop start random.now)) × (out.new ≡ take (coding_length * k) out.old ++ cond (fixed_coding (planned rule set.now) k) (take coding_length (drop (coding_length * source (planned rule set.now) k) out.old)) (M.free_coding (planned rule set.now) k (drop start random.now)) ++ drop (coding_length * k + coding_length) out.old) }
+fn set_coding(source: &mut Source, plan: &Plan, k: usize, out: &mut [u8])
+    requires { Near 1000000 source.old × (k ≤ 1088) × (coding_length * k + coding_length ≤ length out.old) }
+    ensures { (source.new ≡ past (M.set_use (planned plan.now) k) source.old) × (out.new ≡ take (coding_length * k) out.old ++ cond (P.fixed_coding (planned plan.now) k) (take coding_length (drop (coding_length * P.source (planned plan.now) k) out.old)) (M.free_coding (planned plan.now) k (rest source.old)) ++ drop (coding_length * k + coding_length) out.old) }
 {
     let here = lengths::CODING * k;
-    if fixed_coding(rule, k) {
-        let from = k + lengths::HALVES * rule.from
-            - (lengths::SET_CODINGS + lengths::HALVES * rule.to);
+    if plan.fixes(k) {
+        let from = k + lengths::HALVES * plan.from
+            - (lengths::SET_CODINGS + lengths::HALVES * plan.to);
         let coding = block_at(out, lengths::CODING * from);
         put_block(out, here, coding);
-        return start;
+        return;
     }
     let end = here + lengths::CODING;
-    free_coding(table, random, start, rule, set, k, &mut out[here..end])
+    free_coding(source, plan, k, &mut out[here..end]);
 }
 
 // The first n codings of U and the sets.
-pub fn draw_sets(
-    table: &[u8],
-    random: &[u8],
-    rule: Rule,
-    set: &[u8],
-    n: usize,
-    out: &mut [u8],
-) -> usize
-    requires { (table.now ≡ number_table) × TwoWords rule.from rule.to × (n ≤ 1088) × (length out.old ≡ n * coding_length) }
-    ensures { (result ≡ begins (M.set_use (planned rule set.now)) n random.now) × (out.new ≡ chunks n (M.set_coding (planned rule set.now) random.now)) }
+pub fn draw_sets(source: &mut Source, plan: &Plan, n: usize, out: &mut [u8])
+    requires { (n ≤ 1088) × Near 0 source.old × (length out.old ≡ n * coding_length) }
+    ensures { (source.new ≡ past (begins (M.set_use (planned plan.now)) n) source.old) × (out.new ≡ chunks n (M.set_coding (planned plan.now) (rest source.old))) }
 {
-    let mut at: usize = 0;
     for k in 0..n {
-        let next = set_coding(table, random, at, rule, set, k, out);
-        at = next;
+        set_coding(source, plan, k, out);
     }
-    at
 }
 
 // The middle codings of a round.
-fn draw_middles(table: &[u8], random: &[u8], start: usize, out: &mut [u8]) -> usize
-    requires { (table.now ≡ number_table) × (start ≤ length random.now + 100000) × (length out.old ≡ middles_length) }
-    ensures { (result ≡ start + M.middles_draw (drop start random.now)) × (out.new ≡ M.middles_from (drop start random.now)) }
+fn draw_middles(source: &mut Source, out: &mut [u8])
+    requires { Near 100000 source.old × (length out.old ≡ middles_length) }
+    ensures { (source.new ≡ past M.middles_draw source.old) × (out.new ≡ M.middles_from (rest source.old)) }
 {
-    let mut at = start;
+    // Not by in_parts: its closure changes nothing but its part, and each part moves the source on.
     let mut a: usize = 0;
     for k in 0..lengths::MIDDLES {
         let e = a + lengths::CODING;
-        let next = draw_coding(table, random, at, &mut out[a..e]);
-        at = next;
+        source.draw_coding(&mut out[a..e]);
         a = e;
     }
-    at
 }
 
-// The byte at a place, or 0 behind the end.
-fn byte_at(random: &[u8], at: usize) -> u8
-    ensures { result ≡ get_or random.now at 0 }
+// The masks of a round: the lowest bits of the next bytes.
+fn draw_masks(source: &mut Source, out: &mut [u8])
+    requires { Near 200000 source.old × (length out.old ≡ 24) }
+    ensures { (source.new ≡ past (λ s. 24) source.old) × (out.new ≡ M.masks_from (rest source.old)) }
 {
-    if at < random.len() {
-        return random[at];
-    }
-    0
-}
-
-// The masks of a round: the lowest bits of the bytes from a place on.
-fn draw_masks(random: &[u8], start: usize, out: &mut [u8])
-    requires { (start ≤ length random.now + 200000) × (length out.old ≡ 24) }
-    ensures { out.new ≡ M.masks_from (drop start random.now) }
-{
-    for k in 0..lengths::MIDDLES {
-        out[k] = byte_at(random, start + k) % 2;
+    // k is for the proof: the masks before it are drawn.
+    for (k, mask) in out.iter_mut().enumerate() {
+        *mask = source.byte() % 2;
     }
 }
 
 // A round: its middle codings, then its masks.
-fn draw_round(table: &[u8], random: &[u8], start: usize, out: &mut [u8]) -> usize
-    requires { (table.now ≡ number_table) × (start ≤ length random.now + 100000) × (length out.old ≡ round_codings_length) }
-    ensures { (result ≡ start + M.round_draws (drop start random.now)) × (out.new ≡ M.round_from (drop start random.now)) }
+fn draw_round(source: &mut Source, out: &mut [u8])
+    requires { Near 100000 source.old × (length out.old ≡ round_codings_length) }
+    ensures { (source.new ≡ past M.round_draws source.old) × (out.new ≡ M.round_from (rest source.old)) }
 {
-    let masks = draw_middles(table, random, start, &mut out[0..lengths::MASKS]);
-    draw_masks(
-        random,
-        masks,
-        &mut out[lengths::MASKS..lengths::ROUND_CODINGS],
-    );
-    masks + lengths::MIDDLES
+    draw_middles(source, &mut out[0..lengths::MASKS]);
+    draw_masks(source, &mut out[lengths::MASKS..lengths::ROUND_CODINGS]);
 }
 
 // The rounds, one after another.
-pub fn draw_rounds(table: &[u8], random: &[u8], start: usize, r: usize, out: &mut [u8]) -> usize
-    requires { (table.now ≡ number_table) × (r ≤ 32) × (start ≤ length random.now + 50000) × (length out.old ≡ r * round_codings_length) }
-    ensures { (result ≡ start + M.rounds_draw r (drop start random.now)) × (out.new ≡ M.rounds_from r (drop start random.now)) }
+pub fn draw_rounds(source: &mut Source, r: usize, out: &mut [u8])
+    requires { (r ≤ 32) × Near 50000 source.old × (length out.old ≡ r * round_codings_length) }
+    ensures { (source.new ≡ past (M.rounds_draw r) source.old) × (out.new ≡ M.rounds_from r (rest source.old)) }
 {
-    let mut at = start;
+    // Not by in_parts, as in draw_middles.
     let mut a: usize = 0;
     for l in 0..r {
         let e = a + lengths::ROUND_CODINGS;
-        let next = draw_round(table, random, at, &mut out[a..e]);
-        at = next;
+        draw_round(source, &mut out[a..e]);
         a = e;
     }
-    at
 }

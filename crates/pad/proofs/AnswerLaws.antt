@@ -9,7 +9,7 @@ use lib.Dec.{ltb, lit<}
 use lib.ListN.{length, drop}
 use Rattle.lists.specs.Refusals.{first}
 use Rattle.lists.proofs.RefusalLaws.{Clear, first_hit, first_pass}
-use Rattle.cipher.specs.Refusal.{number_of, outcome_of}
+use Rattle.cipher.specs.Refusal.{number_of}
 use Rattle.cipher.specs.Coding.{Permutations, LowSet, set_of, byte_coded}
 use Rattle.cipher.specs.Chain.{LoneSet, set_tests}
 use Rattle.cipher.specs.Lengths.{longest_message, set_length}
@@ -17,8 +17,6 @@ use Rattle.cipher.proofs.InverseLaws.{low_set}
 use Rattle.cipher.proofs.ChainTests.{set_tested}
 use Rattle.cipher.proofs.ChainRefusals.{set_length_refused, set_coding_refused, set_taken}
 use Rattle.cipher.proofs.CheckLaws.{Numbered, told_clear, told_refused}
-use Rattle.cipher.specs.declared.refusal.Outcome.{Outcome}
-use Rattle.cipher.specs.declared.refusal.Outcome.TheVariants.{Done, Refused}
 use Rattle.cipher.specs.declared.refusal.Refusal.{Refusal}
 use Rattle.cipher.proofs.AnswerLaws.{number_more}
 use Rattle.pad.specs.CodedParts.{coded_part}
@@ -118,52 +116,53 @@ module _ (u m out : List ℕ) where
           → tag_answer u m out ≡ ((0, (length (padded_for_tag m), kind_of (length m))), coded_text (set_of u) (padded_for_tag m) ++ drop (length (padded_for_tag m)) out)
       tag_coded h = coded_done (0, 0) (length (padded_for_tag m), kind_of (length m)) u m (padded_for_tag m) out v l h
 
--- ---- for the code: what the number tells that both codings get from `admit`
+-- ---- for the code: what both codings get from `admit`
 
 module _ (u : List ℕ) (n total room : ℕ) where
   -- what the check of the set refused
-  pub admit_set : (q k : ℕ) → q ≡ first (set_tests u) (λ k. k) 0 → k ≡ q → (k ≡ 0 → ⊥) → first (coding_tests u n total room) (λ k. k) 0 ≡ q
+  pub admit_set : (q : Refusal) → number_of q ≡ first (set_tests u) (λ k. k) 0 → number_of q ≡ first (coding_tests u n total room) (λ k. k) 0
   unfolding coding_tests
-  admit_set q k e d h =
-      told_refused ((ltb longest_message n, 8) ∷ (ltb room total, 9) ∷ []) (λ k. k) 0 (set_tests u) q (omega arith) (sym e)
+  admit_set q e =
+      sym (told_refused ((ltb longest_message n, 8) ∷ (ltb room total, 9) ∷ []) (λ k. k) 0 (set_tests u) (number_of q) (number_more q) (sym e))
 
   numbered : Numbered (coding_tests u n total room)
   unfolding coding_tests set_tests
   numbered = (lit< tt, (lit< tt, (lit< tt, (lit< tt, tt))))
 
-  module _ (r : Outcome) (e : outcome_of r ≡ first (coding_tests u n total room) (λ q. q) 0) where
-    pub refused_by : {A : Type 0} (refuse : ℕ → A) (go : A) (q : Refusal) → r ≡ Refused q → first (coding_tests u n total room) refuse go ≡ refuse (number_of q)
-    unfolding coding_tests set_tests
-    refused_by refuse go q d =
-        told_refused [] refuse go (coding_tests u n total room) (number_of q) (number_more q) (sym e ∙ ap outcome_of d)
+  pub refused_by : {A : Type 0} (refuse : ℕ → A) (go : A) (q : Refusal) → number_of q ≡ first (coding_tests u n total room) (λ k. k) 0
+      → first (coding_tests u n total room) refuse go ≡ refuse (number_of q)
+  unfolding coding_tests set_tests
+  refused_by refuse go q e = told_refused [] refuse go (coding_tests u n total room) (number_of q) (number_more q) (sym e)
 
+  module _ (e : 0 ≡ first (coding_tests u n total room) (λ q. q) 0) where
     -- the set is one, the message not too long, and there is room
-    pub admitted : r ≡ Done → LoneSet u × (n ≤ longest_message) × (total ≤ room)
+    pub admitted : LoneSet u × (n ≤ longest_message) × (total ≤ room)
     unfolding coding_tests set_tests
-    admitted d = parts (told_clear (coding_tests u n total room) numbered (sym e ∙ ap outcome_of d))
+    admitted = parts (told_clear (coding_tests u n total room) numbered (sym e))
       where
         parts : Clear (coding_tests u n total room) → LoneSet u × (n ≤ longest_message) × (total ≤ room)
         parts c = (set_tested u (c.0, (c.1.0, tt)), ltb-false longest_message n c.1.1.0, ltb-false room total c.1.1.1.0)
 
-    pub admitted_low : r ≡ Done → (512 ≤ length u) × LowSet u × (total ≤ room)
-    admitted_low d =
-        let h = admitted d in
+    pub admitted_low : (512 ≤ length u) × LowSet u × (total ≤ room)
+    admitted_low =
+        let h = admitted in
         (omega (arith, h.0.size), low_set u h.0.codings, h.2)
 
--- the two ways in which a coding ends, where `admit` gave r for a message padded to total bytes
-module _ {A : Type 0} (nothing told : A) (u m text out : List ℕ) (total : ℕ) (size : length text ≡ total) (r : Outcome)
-    (e : outcome_of r ≡ first (coding_tests u (length m) total (length out)) (λ q. q) 0) where
-  pub answer_refused : (q : Refusal) → r ≡ Refused q → ((number_of q, nothing), out) ≡ coded_into nothing told u m text out
+-- the two ways in which a coding ends, for a message padded to total bytes
+module _ {A : Type 0} (nothing told : A) (u m text out : List ℕ) (total : ℕ) (size : length text ≡ total) where
+  pub answer_refused : (q : Refusal) → number_of q ≡ first (coding_tests u (length m) total (length out)) (λ k. k) 0
+      → ((number_of q, nothing), out) ≡ coded_into nothing told u m text out
   unfolding coded_into
-  answer_refused q d =
-      sym (refused_by u (length m) total (length out) r e (λ q. ((q, nothing), out)) ((0, told), coded_text (set_of u) text ++ drop (length text) out) q d)
+  answer_refused q e =
+      sym (refused_by u (length m) total (length out) (λ q. ((q, nothing), out)) ((0, told), coded_text (set_of u) text ++ drop (length text) out) q e)
       ∙ ap (λ (k : ℕ). first (coding_tests u (length m) k (length out)) (λ q. ((q, nothing), out)) ((0, told), coded_text (set_of u) text ++ drop (length text) out)) (sym size)
 
-  pub answer_coded : (tail end : List ℕ) (n k : ℕ) (said : A) → r ≡ Done → text ≡ m ++ tail → length text ≡ 16 * n
+  pub answer_coded : 0 ≡ first (coding_tests u (length m) total (length out)) (λ q. q) 0
+      → (tail end : List ℕ) (n k : ℕ) (said : A) → text ≡ m ++ tail → length text ≡ 16 * n
       → end ≡ coded_part (byte_coded u) 0 (m ++ tail) ++ drop k out → k ≡ total → said ≡ told
       → ((0, said), end) ≡ coded_into nothing told u m text out
-  answer_coded tail end n k said d t b w i s =
-      let h = admitted u (length m) total (length out) r e d in
+  answer_coded e tail end n k said t b w i s =
+      let h = admitted u (length m) total (length out) e in
       ap₂ (λ (a : A) (x : List ℕ). ((0, a), x)) s
       (w
       ∙ ap₂ {C = List ℕ} (λ (a : List ℕ) (j : ℕ). a ++ drop j out) (ap (coded_part (byte_coded u) 0) (sym t) ∙ part_blocks u n text b) (i ∙ sym size))

@@ -1,16 +1,16 @@
 -- Why the code codes a text as it does: the loops that look bytes up in a table of images, and that parts of a text coded byte by
 -- byte make the text coded block by block.
 use mathlib.Core.Path.{◌≡◌, refl, sym, ap, ap₂, ◌∙◌}
-use mathlib.Core.List.{List, [], ◌∷◌, ◌++◌, map, flatten, append_assoc, append-nil}
-use Prim.Native.Nat.{ℕ, zero, suc, ◌+◌, ◌-◌, ◌*◌, ◌/◌, ◌%◌, ◌≤◌, ◌<◌}
+use mathlib.Core.List.{List, ◌++◌, map, flatten, append_assoc}
+use Prim.Native.Nat.{ℕ, zero, suc, ◌+◌, ◌-◌, ◌*◌, ◌/◌, ◌%◌, ◌≤◌}
 use native.Mathlib.Omega.{arith}
-use lib.ListN.{length, get_or, set, take, drop, length-append, length-drop, take-append-drop, get_or-append}
+use lib.ListN.{length, get_or, take, drop, length-append, length-drop, take-append-drop, get_or-append}
 use lib.Seq.{length-take-le, get_or-append-add, get_or-take, get_or-drop, take_at, drop_at, drop-drop}
 use Rattle.lists.specs.Tabulation.{tab, chunks}
 use Rattle.lists.specs.Blocks.{Bytes, cut, blocks}
-use Rattle.lists.proofs.TabulationLaws.{length_tab, tab_ext, tab_more}
+use Rattle.lists.proofs.TabulationLaws.{length_tab, tab_ext}
 use Rattle.lists.proofs.ChunkLaws.{tab_append, tab_rows}
-use Rattle.lists.proofs.PartLaws.{grown, part_end}
+use Rattle.lists.proofs.PartLaws.{part_end}
 use Rattle.lists.proofs.BlockLaws.{bytes_append}
 use Rattle.cipher.specs.Coding.{set_of, coded, byte_coded}
 use Rattle.cipher.specs.Images.{images_of, image_at, imaged}
@@ -84,31 +84,7 @@ module _ (s : List ℕ) where
       ∙ cut_coded n l
       ∙ ap (λ (k : ℕ). flatten (map (coded (set_of s)) (cut k l))) (sym c)
 
--- ---- the loop that codes a part
-
--- none is written
-pub part_none : (f : ℕ → ℕ) (d : List ℕ) (from : ℕ) → d ≡ (take from d ++ tab 0 f) ++ drop (from + 0) d
-unfolding tab
-part_none f d from =
-    let c : from + 0 ≡ from = omega arith in
-    rw (c, append-nil (take from d)) (sym (take-append-drop from d))
-
--- i bytes are written from place `from` on: one more, and all n of them
-module _ (f : ℕ → ℕ) (d out : List ℕ) (from i n : ℕ) (room : from + n ≤ length d) (e : out ≡ (take from d ++ tab i f) ++ drop (from + i) d) where
-  written : length (take from d ++ tab i f) ≡ from + i
-  written = length-append (take from d) (tab i f) ∙ rw (length-take-le from d (omega arith), length_tab i f)
-
-  pub part_turn : (v : ℕ) → v ≡ f i → i < n → set out (from + i) v ≡ (take from d ++ tab (i + 1) f) ++ drop (from + (i + 1)) d
-  part_turn v w h =
-      let c : from + (i + 1) ≡ from + i + 1 = omega arith in
-      rw (e, w, c, tab_more)
-      (grown (take from d ++ tab i f) d (from + i) (f i) written (omega arith)
-      ∙ ap {B = List ℕ} (λ x. x ++ drop (from + i + 1) d) (append_assoc (take from d) (tab i f) (f i ∷ [])))
-
-  pub part_full : i ≡ n → out ≡ take from d ++ (tab n f ++ drop (from + n) d)
-  part_full h = e ∙ rw h (append_assoc (take from d) (tab n f) (drop (from + n) d))
-
--- ---- the loop that codes whole blocks of a text by the table t
+-- ---- whole blocks of a text, coded by the table t
 
 module _ (t text : List ℕ) where
   -- block k coded
@@ -124,7 +100,7 @@ module _ (t text : List ℕ) where
       let w : a + i ≡ k * 16 + i = omega arith in
       ap (image_at t i) (get_or-take (a + 16 - a) (drop a text) i 0 (omega arith) ∙ get_or-drop a text i 0 ∙ ap (λ (j : ℕ). get_or text j 0) w))
 
-  blocks_part : (n : ℕ) → n * 16 ≤ length text → chunks n block_images ≡ coded_part (image_at t) 0 (take (n * 16) text)
+  pub blocks_part : (n : ℕ) → n * 16 ≤ length text → chunks n block_images ≡ coded_part (image_at t) 0 (take (n * 16) text)
   blocks_part n h =
       sym (tab_rows n 16 (λ i. image_at t (i % 16) (get_or text i 0)) (λ k i. image_at t i (get_or text (k * 16 + i) 0)) (λ k i hk hi.
       let w : (k * 16 + i) % 16 ≡ i = omega arith in
@@ -133,12 +109,6 @@ module _ (t text : List ℕ) where
       ap (image_at t (i % 16)) (sym (get_or-take (n * 16) text i 0 l)))
       ∙ ap (λ (j : ℕ). tab j (λ i. image_at t (i % 16) (get_or (take (n * 16) text) i 0))) (sym (length-take-le (n * 16) text h))
       ∙ sym (part_front (image_at t) (take (n * 16) text))
-
-  pub blocks_full : (d out : List ℕ) (n k a : ℕ) → n * 16 ≤ length text → out ≡ chunks k block_images ++ drop a d → a ≡ k * 16 → k ≡ n
-      → out ≡ coded_part (image_at t) 0 (take (n * 16) text) ++ drop (n * 16) d
-  blocks_full d out n k a h e w q =
-      let z : a ≡ n * 16 = omega arith in
-      e ∙ ap₂ {C = List ℕ} (λ (j i : ℕ). chunks j block_images ++ drop i d) q z ∙ ap {B = List ℕ} (λ x. x ++ drop (n * 16) d) (blocks_part n h)
 
 -- ---- a buffer in whose front parts of a text are coded, one after the other
 

@@ -181,6 +181,10 @@ module _ (m : List ℕ) where
       go true = refl
       go false = rw length-replicate (omega arith)
 
+  -- by the number of bytes that the code adds
+  pub tag_total : (k : ℕ) → k ≡ tag_added (length m) → length (padded_for_tag m) ≡ length m + k
+  tag_total k e = tag_length ∙ ap (λ (j : ℕ). length m + j) (sym e)
+
   -- whole blocks, one at least, and at most 1,048,576 bytes
   pub tag_blocks : length (padded_for_tag m) ≡ 16 * ((length m - 1) / 16 + 1)
   tag_blocks = go (ℕ_discrete (length m) 0) (ℕ_discrete (length m % 16) 0)

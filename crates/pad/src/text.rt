@@ -9,18 +9,23 @@ ghost use Rattle.pad.specs.CodedParts.{coded_part};
 use cipher::image::{images, look_up};
 use cipher::invert::wide;
 use cipher::lengths;
+use parts::in_parts;
 
-// The first n blocks of a text coded into the front of out.
+// The first n blocks of a text coded into the front of out. The table is a slice, as look_up takes it
+// (cipher's image.rt).
 fn code_blocks(images: &[u8], text: &[u8], n: usize, out: &mut [u8])
     requires { (length images.now ≡ images_length) × (n * block_length ≤ length text.now) × (length text.now ≤ length out.old) }
     ensures { out.new ≡ coded_part (image_at images.now) 0 (take (n * block_length) text.now) ++ drop (n * block_length) out.old }
 {
-    let mut a: usize = 0;
-    for k in 0..n {
-        let e = a + lengths::BLOCK;
-        look_up(images, &text[a..e], &mut out[a..e]);
-        a = e;
-    }
+    in_parts(
+        &mut out[0..n * lengths::BLOCK],
+        lengths::BLOCK,
+        n,
+        |k, code| {
+            let at = k * lengths::BLOCK;
+            look_up(images, &text[at..at + lengths::BLOCK], code)
+        },
+    );
 }
 
 // A part of a text, which begins at byte `from` of it, coded into the same places of out.
@@ -28,9 +33,9 @@ fn code_part(images: &[u8], from: usize, part: &[u8], out: &mut [u8])
     requires { (length images.now ≡ images_length) × (from + length part.now ≤ length out.old) }
     ensures { out.new ≡ take from out.old ++ (coded_part (image_at images.now) from part.now ++ drop (from + length part.now) out.old) }
 {
-    let n = part.len();
-    for i in 0..n {
-        out[from + i] = images[lengths::BYTES * ((from + i) % lengths::BLOCK) + wide(part[i])];
+    let codes = &mut out[from..from + part.len()];
+    for (i, code) in codes.iter_mut().enumerate() {
+        *code = images[lengths::BYTES * ((from + i) % lengths::BLOCK) + wide(part[i])];
     }
 }
 

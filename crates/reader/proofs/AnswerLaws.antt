@@ -15,8 +15,8 @@ use Rattle.cipher.specs.KeySize.{rounds}
 use Rattle.cipher.specs.Answers.{bad_text, block_tests, text_tests, room_tests}
 use Rattle.cipher.specs.declared.size.KeySize.{KeySize}
 use Rattle.cipher.specs.declared.size.KeySize.TheVariants.{Bytes16, Bytes24, Bytes32}
-use Rattle.cipher.specs.declared.size.SizeFound.TheVariants.{Unknown}
-use Rattle.cipher.proofs.KeySizeLaws.{none_of, one_of}
+use Rattle.std.proofs.Common.{Option, Some, None}
+use Rattle.cipher.proofs.KeySizeLaws.{found_length, none_of, one_of}
 use Rattle.cipher.proofs.AnswerLaws.{block_refused, block_taken_lem, text_known, text_refused, text_taken, room_refused, room_taken}
 use Rattle.reading.specs.Book.{reading_book_length, size_of_reading_book}
 use Rattle.reading.specs.Shown.{read_text, read_at}
@@ -27,6 +27,10 @@ use Rattle.reader.specs.Answers.{reading_rounds_of, read_answer}
 pub rounds_known : (z : KeySize) (bk : List ℕ) → length bk ≡ reading_book_length z → reading_rounds_of bk ≡ rounds z
 unfolding reading_rounds_of
 rounds_known z bk e = rw e (omega arith)
+
+-- as the code finds the size
+pub book_found : (bk : List ℕ) (z : KeySize) (o : Option KeySize) → o ≡ size_of_reading_book (length bk) → o ≡ Some z → length bk ≡ reading_book_length z
+book_found bk z o e f = found_length reading_book_length (length bk) z (sym e ∙ f)
 
 module _ (bk iv cs out : List ℕ) where
   -- whether the book has none of the three lengths
@@ -39,7 +43,7 @@ module _ (bk iv cs out : List ℕ) where
   left : ℕ → (ℕ × ℕ) × List ℕ
   left q = ((q, 0), out)
 
-  pub read_6 : size_of_reading_book (length bk) ≡ Unknown → read_answer bk iv cs out ≡ ((6, 0), out)
+  pub read_6 : size_of_reading_book (length bk) ≡ None → read_answer bk iv cs out ≡ ((6, 0), out)
   unfolding read_answer read_into left other
   read_6 e = first_hit other 6 (block_tests iv ++ (text_tests cs ++ room_tests (length cs) out)) left read_into (none_of reading_book_length (length bk) e)
 

@@ -1,11 +1,12 @@
 -- The blocks of a buffer through rounds, and folded with the blocks before them: one turn of each loop, and the whole.
 use mathlib.Core.Path.{◌≡◌, refl, sym, ap, ap₂, ◌∙◌}
-use mathlib.Core.List.{List, ◌++◌}
-use Prim.Native.Nat.{ℕ, zero, suc, ◌+◌, ◌-◌, ◌*◌, ◌≤◌, ◌<◌}
+use mathlib.Core.List.{List, [], ◌++◌}
+use Prim.Native.Nat.{ℕ, zero, suc, ◌+◌, ◌-◌, ◌*◌, ◌/◌, ◌≤◌, ◌<◌}
 use native.Mathlib.Numerals.{add-one}
 use native.Mathlib.Omega.{arith}
-use lib.ListN.{length, take, drop, length-append, length-drop}
+use lib.ListN.{length, get_or, take, drop, length-append, length-drop}
 use lib.Seq.{drop_at}
+use Rattle.std.specs.Simd.{first_chunks}
 use Rattle.lists.specs.Tabulation.{chunks}
 use Rattle.lists.specs.Blocks.{block_of, block_before}
 use Rattle.lists.proofs.ChunkLaws.{chunks_ext}
@@ -18,7 +19,10 @@ use Rattle.cipher.proofs.FoldLaw.{fold_lt}
 use Rattle.reading.specs.Tables.{read_round, read_rounds}
 use Rattle.reading.specs.Book.{reading_round_at, reading_group_at}
 use Rattle.reading.specs.Shown.{read_block, read_at}
+use Rattle.table_reader.proofs.ChunkLaws.{chunk_first, chunk_lent}
+use Rattle.table_reader.proofs.FrontLaws.{fold_front}
 use Rattle.reader.proofs.RoundLaws.{block_round}
+use Rattle.reader.proofs.FrontLaws.{read_front}
 
 -- ---- one round: block k of d through it
 
@@ -38,10 +42,6 @@ unfolding read_rounds
 length_rounds bk d zero h k = absurd (omega arith)
 length_rounds bk d (suc l) h k = (block_round (reading_round_at bk l) (read_rounds (reading_round_at bk) l (block_of d k))).size
 
--- the tables of round l, as they are lent
-pub tables_room : (bk : List ℕ) (r l : ℕ) → round_length * r ≤ length bk → l < r → round_length ≤ length (take (length bk - round_length * l) (drop (round_length * l) bk))
-tables_room bk r l h b = rw (part_end bk (round_length * l), length-drop (round_length * l) bk) (omega arith)
-
 -- the first n blocks of d went through l rounds, and the rest is as it was
 pub record Rounded (bk d : List ℕ) (n l : ℕ) (out : List ℕ) : Type 0 where
   pub len : length out ≡ length d
@@ -53,17 +53,19 @@ module _ (bk d : List ℕ) (n : ℕ) (room : 16 * n ≤ length d) where
   unfolding read_rounds
   rounded_none = record { len = refl; each = λ k h. refl; rest = refl }
 
-  -- one round more, by the tables as they are lent
-  pub rounded_more : (l : ℕ) (out o : List ℕ) → length o ≡ length out → Rounded bk d n l out
-      → o ≡ chunks n (round_of (take (length bk - round_length * l) (drop (round_length * l) bk)) out) ++ drop (16 * n) out → Rounded bk d n (l + 1) o
+  -- one round more, by the tables as they are lent: those at l of the parts that the book is made of
+  pub rounded_more : (l r k : ℕ) (cs : List (List ℕ)) (out o : List ℕ) → cs ≡ first_chunks round_length k bk → l < length (take r cs)
+      → length o ≡ length out → Rounded bk d n l out → o ≡ chunks n (round_of (get_or (take r cs) l []) out) ++ drop (16 * n) out
+      → Rounded bk d n (l + 1) o
   unfolding read_rounds
-  rounded_more l out o same e q =
-      let t = take (length bk - round_length * l) (drop (round_length * l) bk) in
+  rounded_more l r k cs out o ec h same e q =
+      let t = get_or (take r cs) l [] in
       record {
         len = same ∙ e.len;
-        each = λ k h.
-            made_block (round_of t out) (length_round t out) out n o q (rw e.len room) k h
-            ∙ ap₂ read_round (part_end bk (round_length * l)) (e.each k h)
+        each = λ k h'.
+            made_block (round_of t out) (length_round t out) out n o q (rw e.len room) k h'
+            ∙ ap₂ read_round (chunk_lent round_length r _ l bk cs ec h) (e.each k h')
+            ∙ read_front (reading_round_at bk l) (rounds_of bk l d k)
             ∙ ap (λ (m : ℕ). rounds_of bk m d k) (sym (add-one l));
         rest = made_rest (round_of t out) (length_round t out) out n o q ∙ e.rest;
       }
@@ -87,16 +89,21 @@ pub before_more : (iv text b : List ℕ) (k : ℕ) → b ≡ take 16 (drop (16 *
 unfolding block_before
 before_more iv text b k e = rw add-one e
 
--- the group after r rounds, as it is lent
-pub group_room : (bk : List ℕ) (r : ℕ) → length bk ≡ group_length + round_length * r
-    → group_length ≤ length (take (length bk - round_length * r) (drop (round_length * r) bk))
-group_room bk r e = rw (part_end bk (round_length * r), length-drop (round_length * r) bk) (omega arith)
+-- the group after r rounds, as it is lent: the first of the parts that the rest of the book is made of
+pub group_is : (bk : List ℕ) (r : ℕ) (cs : List (List ℕ)) (d x : List ℕ) → length bk ≡ group_length + round_length * r
+    → (let p = take (length bk - round_length * r) (drop (round_length * r) bk) in cs ≡ first_chunks group_length (length p / group_length) p)
+    → table_fold (get_or cs 0 []) d x ≡ table_fold (reading_group_at r bk) d x
+group_is bk r cs d x e ec =
+    ap (λ (g : List ℕ). table_fold g d x)
+    (chunk_first group_length _ _ cs ec (rw (part_end bk (round_length * r), length-drop (round_length * r) bk) (omega arith))
+    ∙ ap (take group_length) (part_end bk (round_length * r)))
+    ∙ fold_front (reading_group_at r bk) d x
 
 -- ---- copied, through the rounds, folded
 
 module _ (bk iv text out : List ℕ) (r n : ℕ) (some : 0 < r) (size : length text ≡ 16 * n) (room : length text ≤ length out) (a b c g : List ℕ)
     (ea : a ≡ text ++ drop (length text) out) (eb : b ≡ chunks n (rounds_of bk r a) ++ drop (16 * n) a)
-    (eg : g ≡ reading_group_at r bk) (ec : c ≡ chunks n (fold_of g iv text b) ++ drop (16 * n) b) where
+    (eg : (x y : List ℕ) → table_fold g x y ≡ table_fold (reading_group_at r bk) x y) (ec : c ≡ chunks n (fold_of g iv text b) ++ drop (16 * n) b) where
   long : 16 * n ≤ length a
   long = rw (ea, length-append text (drop (length text) out), size) (omega arith)
 
@@ -104,7 +111,8 @@ module _ (bk iv text out : List ℕ) (r n : ℕ) (some : 0 < r) (size : length t
   unfolding read_at read_block
   block_is k h =
       let e : block_of a k ≡ block_of text k = ap (λ (l : List ℕ). block_of l k) ea ∙ block_front text (drop (length text) out) k (omega arith) in
-      ap₂ (λ (f x : List ℕ). table_fold f x (block_before iv text k)) eg
+      eg _ _
+      ∙ ap (λ (x : List ℕ). table_fold (reading_group_at r bk) x (block_before iv text k))
       (made_block (rounds_of bk r a) (length_rounds bk a r some) a n b eb long k h ∙ ap (read_rounds (reading_round_at bk) r) e)
 
   rest_is : drop (16 * n) b ≡ drop (16 * n) out

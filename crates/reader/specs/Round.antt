@@ -1,5 +1,5 @@
 -- A reading round byte by byte: the inner functions' own words for the definitions of `Rattle.reading.specs.Tables`.
-use Rattle.std.specs.Prelude.{List, ℕ, ◌+◌, ◌*◌, ◌%◌, get_or}
+use Rattle.std.specs.Prelude.{List, ℕ, ◌+◌, ◌*◌, ◌%◌, ◌<◌, get_or}
 use Rattle.cipher.specs.Lengths.{turn_length}
 use Rattle.cipher.specs.Coding.{block_half}
 use Rattle.reading.specs.Tables.{turned_at}
@@ -21,9 +21,13 @@ turned_byte t b i m v = turned_half t b i (2 * m) v + 16 * turned_half t b i (2 
 abbrev pub turned_bytes : List ℕ → List ℕ → List ℕ
 turned_bytes t b = three_words (turned_at t b)
 
--- r has byte m of three differences, read two half bytes at a time from the subtract tables in t: each takes from a turned word in s what
--- the one before it gave, the first x; and their borrows, which are bits
-pub record EachIs (t s : List ℕ) (m x c1 c2 c3 : ℕ) (r : ByteOfEach) : Type 0 where
-  pub first : TwoIs t (2 * m) c1 (get_or s m 0) x r.word1 r.borrow1
-  pub second : TwoIs t (2 * m + 8) c2 (get_or s (m + 4) 0) r.word1 r.word2 r.borrow2
-  pub third : TwoIs t (2 * m + 16) c3 (get_or s (m + 8) 0) r.word2 r.word3 r.borrow3
+-- the borrows of three bytes are bits
+abbrev pub Bits : ByteOfEach → Type 0
+Bits r = (r.word1.carry < 2) × (r.word2.carry < 2) × (r.word3.carry < 2)
+
+-- r has byte m of three differences, read two half bytes at a time from the subtract tables in t, in front of which 12 of their length
+-- would stand: each takes from a turned word in s what the one before it gave, the first x, and the borrow of its byte before, in o
+pub record EachIs (t s : List ℕ) (m x : ℕ) (o r : ByteOfEach) : Type 0 where
+  pub first : TwoIs t (12 + 2 * m) o.word1.carry (get_or s m 0) x r.word1.sum r.word1.carry
+  pub second : TwoIs t (12 + 2 * m + 8) o.word2.carry (get_or s (m + 4) 0) r.word1.sum r.word2.sum r.word2.carry
+  pub third : TwoIs t (12 + 2 * m + 16) o.word3.carry (get_or s (m + 8) 0) r.word2.sum r.word3.sum r.word3.carry

@@ -1,7 +1,7 @@
 // All blocks in the front of a buffer read (document 02, 2026-01): round by round, so that the tables of a
 // round serve every block before the next round's, and no block waits for another.
 ghost use Rattle.std.specs.Prelude.{◌≡◌, ◌++◌, ◌*◌, ◌≤◌, length, drop};
-ghost use Rattle.cipher.specs.Lengths.{round_length, group_length};
+ghost use Rattle.cipher.specs.Lengths.{round_length};
 ghost use Rattle.lists.specs.Blocks.{block_length, block_of, block_before};
 ghost use Rattle.lists.specs.Tabulation.{chunks};
 ghost use Rattle.cipher.specs.Tables.{table_fold};
@@ -11,23 +11,25 @@ ghost use Rattle.reading.specs.Book.{reading_round_at};
 use crate::round::step;
 use cipher::block::{block_at, put_block};
 use cipher::lengths;
-use table_reader::fold::fold;
+use table_reader::entry::RoundTables;
+use table_reader::fold::{FoldGroup, fold};
 
 // The bytes of a text into the front of out.
 pub fn copy(text: &[u8], out: &mut [u8])
     requires { length text.now ≤ length out.old }
     ensures { out.new ≡ text.now ++ drop (length text.now) out.old }
 {
-    for k in 0..text.len() {
-        out[k] = text[k];
-    }
+    out[..text.len()].copy_from_slice(text);
 }
 
-// The first n blocks of out through a round by the tables at the front of t.
-fn round_of(t: &[u8], n: usize, out: &mut [u8])
-    requires { (round_length ≤ length t.now) × (n ≤ 65536) × (block_length * n ≤ length out.old) }
+// Here and below n goes beside out: a buffer may be longer than the text, and what is behind n blocks stays.
+
+// The first n blocks of out through a round by its tables t.
+fn round_of(t: &RoundTables, n: usize, out: &mut [u8])
+    requires { (n ≤ 65536) × (block_length * n ≤ length out.old) }
     ensures { out.new ≡ chunks n (λ k. read_round t.now (block_of out.old k)) ++ drop (block_length * n) out.old }
 {
+    // By index: after as_chunks_mut or chunks_exact_mut a proof knows the blocks' length and not their bytes.
     for k in 0..n {
         let at = lengths::BLOCK * k;
         let to = at + lengths::BLOCK;
@@ -40,22 +42,23 @@ pub fn rounds(book: &[u8], r: usize, n: usize, out: &mut [u8])
     requires { (r ≤ 32) × (round_length * r ≤ length book.now) × (n ≤ 65536) × (block_length * n ≤ length out.old) }
     ensures { out.new ≡ chunks n (λ k. read_rounds (reading_round_at book.now) r (block_of out.old k)) ++ drop (block_length * n) out.old }
 {
-    for l in 0..r {
-        let at = lengths::ROUND_TABLES * l;
-        round_of(&book[at..], n, out);
+    let (tables, _) = book.as_chunks::<{ lengths::ROUND_TABLES }>();
+    for t in &tables[..r] {
+        round_of(t, n, out);
     }
 }
 
-// Each of the first n blocks of out folded, by the group at the front of f, with the block of the sealed
+// Each of the first n blocks of out folded, by the group f, with the block of the sealed
 // text that stands before its place, the IV for the first.
-pub fn folds(f: &[u8], iv: [u8; 16], sealed: &[u8], n: usize, out: &mut [u8])
-    requires { (group_length ≤ length f.now) × (n ≤ 65536) × (block_length * n ≤ length sealed.now) × (block_length * n ≤ length out.old) }
+pub fn folds(f: &FoldGroup, iv: [u8; 16], sealed: &[u8], n: usize, out: &mut [u8])
+    requires { (n ≤ 65536) × (block_length * n ≤ length sealed.now) × (block_length * n ≤ length out.old) }
     ensures { out.new ≡ chunks n (λ k. table_fold f.now (block_of out.old k) (block_before iv sealed.now k)) ++ drop (block_length * n) out.old }
 {
     let mut before = iv;
-    for k in 0..n {
+    let (blocks, _) = sealed.as_chunks::<{ lengths::BLOCK }>();
+    for (k, block) in blocks[..n].iter().enumerate() {
         let at = lengths::BLOCK * k;
         put_block(out, at, fold(f, block_at(out, at), before));
-        before = block_at(sealed, at);
+        before = *block;
     }
 }

@@ -13,11 +13,11 @@ ghost use Rattle.reader.specs.Answers.{read_answer};
 use crate::blocks::{copy, folds, rounds};
 use cipher::block::{bad_text, block_at};
 use cipher::lengths;
-use cipher::refusal::{Refusal, Written};
-use cipher::size::{KeySize, SizeFound};
+use cipher::refusal::Refusal;
+use cipher::size::KeySize;
 use reading::lengths::of_reading_len;
 
-// A sealed text of n blocks read from an IV into the front of out.
+// A sealed text of n blocks read from an IV into the front of out; n is asked, since `chunks` has so many.
 fn read_blocks(size: KeySize, book: &[u8], iv: [u8; 16], sealed: &[u8], n: usize, out: &mut [u8])
     requires { (length book.now ≡ reading_book_length size) × (n ≤ 65536) × (length sealed.now ≡ block_length * n) × (length sealed.now ≤ length out.old) }
     ensures { out.new ≡ chunks n (read_at book.now (S.rounds size) iv sealed.now) ++ drop (block_length * n) out.old }
@@ -26,26 +26,25 @@ fn read_blocks(size: KeySize, book: &[u8], iv: [u8; 16], sealed: &[u8], n: usize
     let at = lengths::ROUND_TABLES * r;
     copy(sealed, out);
     rounds(book, r, n, out);
-    folds(&book[at..], iv, sealed, n, out);
+    let (groups, _) = book[at..].as_chunks::<{ lengths::GROUP }>();
+    folds(&groups[0], iv, sealed, n, out);
 }
 
 // A sealed text read by a reading book from an IV, into the front of out.
-pub fn read(book: &[u8], iv: &[u8], sealed: &[u8], out: &mut [u8]) -> Written
+pub fn read(book: &[u8], iv: &[u8], sealed: &[u8], out: &mut [u8]) -> Result<usize, Refusal>
     ensures { (written_of result, out.new) ≡ read_answer book.now iv.now sealed.now out.old }
 {
-    let SizeFound::Found(size) = of_reading_len(book.len()) else {
-        return Written::Refused(Refusal::BookLength);
-    };
+    let size = of_reading_len(book.len()).ok_or(Refusal::BookLength)?;
     if iv.len() != lengths::BLOCK {
-        return Written::Refused(Refusal::BlockLength);
+        return Err(Refusal::BlockLength);
     }
     let n = sealed.len();
     if bad_text(n) {
-        return Written::Refused(Refusal::MessageLength);
+        return Err(Refusal::MessageLength);
     }
     if out.len() < n {
-        return Written::Refused(Refusal::ShortBuffer);
+        return Err(Refusal::ShortBuffer);
     }
     read_blocks(size, book, block_at(iv, 0), sealed, n / lengths::BLOCK, out);
-    Written::Bytes(n)
+    Ok(n)
 }

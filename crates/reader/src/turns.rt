@@ -1,18 +1,16 @@
 // The words of a block turned back by the turn tables of a reading round (document 02, 2026-01). The two
 // half bytes that a table takes lie side by side in the word, so an index is a byte of it or is made from
 // two.
-ghost use Rattle.std.specs.Prelude.{◌≡◌, ◌≤◌, ◌<◌, length};
-ghost use Rattle.cipher.specs.Lengths.{round_length};
-ghost use Rattle.lists.specs.Blocks.{block_length};
+ghost use Rattle.std.specs.Prelude.{◌≡◌, ◌<◌};
 ghost use Rattle.reader.specs.Round.{pair_of, turned_byte, turned_bytes};
 
 use cipher::invert::wide;
 use cipher::lengths;
-use table_reader::entry::joined;
+use table_reader::entry::{RoundTables, joined};
 
 // Half bytes j and j + 1, mod 8, of word i of a block as one byte, the first one low.
-fn pair(b: &[u8], i: usize, j: usize) -> u8
-    requires { (i < 3) × (j < 16) × (length b.now ≡ block_length) }
+fn pair(b: &[u8; 16], i: usize, j: usize) -> u8
+    requires { (i < 3) × (j < 16) }
     ensures { result ≡ pair_of b.now i j }
 {
     let x = b[4 * i + j % 8 / 2];
@@ -24,8 +22,8 @@ fn pair(b: &[u8], i: usize, j: usize) -> u8
 
 // Byte m of word i turned back by the turn tables in t: its half byte j comes from the half bytes j + v
 // and j + v + 1 of the word.
-fn turned_byte(t: &[u8], b: &[u8], i: usize, m: usize, v: usize) -> u8
-    requires { (i < 3) × (m < 4) × (v < 8) × (round_length ≤ length t.now) × (length b.now ≡ block_length) }
+fn turned_byte(t: &RoundTables, b: &[u8; 16], i: usize, m: usize, v: usize) -> u8
+    requires { (i < 3) × (m < 4) × (v < 8) }
     ensures { result ≡ turned_byte t.now b.now i m v }
 {
     let p = pair(b, i, 2 * m + v);
@@ -36,11 +34,11 @@ fn turned_byte(t: &[u8], b: &[u8], i: usize, m: usize, v: usize) -> u8
 }
 
 // The words 0 to 2 of a block turned back by the tables of a round, four bytes each.
-pub fn turned(t: &[u8], b: &[u8]) -> [u8; 12]
-    requires { (round_length ≤ length t.now) × (length b.now ≡ block_length) }
+pub fn turned(t: &RoundTables, b: &[u8; 16]) -> [u8; 12]
     ensures { result ≡ turned_bytes t.now b.now }
 {
     let mut s = [0u8; 12];
+    // By index: a turn makes one byte of each word, at m, m + 4 and m + 8.
     for m in 0..4 {
         s[m] = turned_byte(t, b, 0, m, 2);
         s[m + 4] = turned_byte(t, b, 1, m, 6);

@@ -1,7 +1,7 @@
 -- The reading book that rows of round keys and a reading chain make, and where each part of it stands (document 02, 2026-01, its sentences
 -- on the order of the rounds, on the last group of folds, and on the book's parts and length). All is said of any rows and any number r
 -- of rounds.
-use Rattle.std.specs.Prelude.{◌≡◌, List, [], ◌++◌, ℕ, suc, ◌+◌, ◌-◌, ◌*◌, ◌<◌, length, get_or, drop}
+use Rattle.std.specs.Prelude.{◌≡◌, Option, List, [], ◌++◌, ℕ, suc, ◌+◌, ◌-◌, ◌*◌, ◌<◌, length, get_or, drop}
 use Rattle.lists.specs.Tabulation.{chunks}
 use Rattle.lists.specs.Blocks.{zeros}
 use Rattle.cipher.specs.KeySize.{rounds, size_by}
@@ -10,7 +10,6 @@ use Rattle.cipher.specs.Tables.{RoundCodings, FoldTables}
 use Rattle.cipher.specs.Chain.{message_set, chain_set, round_codings}
 use Rattle.cipher.specs.Book.{two_kinds, group_part}
 use Rattle.cipher.specs.declared.size.KeySize.{KeySize}
-use Rattle.cipher.specs.declared.size.SizeFound.{SizeFound}
 use Rattle.reading.specs.Lengths.{subtract_length}
 use Rattle.reading.specs.Tables.{turn_back_table, subtract_table, ReadingTables}
 
@@ -40,7 +39,7 @@ reading_book_of r rows ch = chunks r (reading_book_round r rows ch) ++ reading_b
 abbrev pub reading_book_length : KeySize → ℕ
 reading_book_length z = group_length + round_length * rounds z
 
-abbrev pub size_of_reading_book : ℕ → SizeFound
+abbrev pub size_of_reading_book : ℕ → Option KeySize
 size_of_reading_book n = size_by reading_book_length n
 
 -- ---- where the parts stand: a book from its round l on, and, of r rounds, from its group on

@@ -3,7 +3,7 @@ ghost use Rattle.std.specs.Prelude.{◌≡◌};
 ghost use Rattle.reading.specs.Book.{reading_book_length, size_of_reading_book};
 
 use cipher::lengths;
-use cipher::size::{KeySize, SizeFound};
+use cipher::size::KeySize;
 
 // A subtract table, and where in a round the subtract tables begin, after the turn tables.
 pub const SUBTRACT: usize = 512;
@@ -18,17 +18,8 @@ pub fn reading_len(size: KeySize) -> usize
 }
 
 // The size of the key of a reading book of n bytes.
-pub fn of_reading_len(n: usize) -> SizeFound
+pub fn of_reading_len(n: usize) -> Option<KeySize>
     ensures { result ≡ size_of_reading_book n }
 {
-    if n == reading_len(KeySize::Bytes16) {
-        return SizeFound::Found(KeySize::Bytes16);
-    }
-    if n == reading_len(KeySize::Bytes24) {
-        return SizeFound::Found(KeySize::Bytes24);
-    }
-    if n == reading_len(KeySize::Bytes32) {
-        return SizeFound::Found(KeySize::Bytes32);
-    }
-    SizeFound::Unknown
+    KeySize::with_length(n, |size| reading_len(size))
 }

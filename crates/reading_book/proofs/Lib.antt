@@ -1,4 +1,3 @@
-pub mod EntryPairs
 pub mod ReadingTableMade
 pub mod ReadingWhole
 pub mod ReadingChainRefusals

@@ -6,7 +6,7 @@ use native.Mathlib.Nat.{not-suc-le-zero, le_of_suc-le-suc}
 use native.Mathlib.Omega.{arith}
 use lib.Bits.{bit_xor}
 use lib.Dec.{lit<}
-use lib.ListN.{length, get_or, drop}
+use lib.ListN.{length, get_or}
 use Rattle.lists.specs.Tabulation.{tab, chunks, tables}
 use Rattle.lists.specs.HalfBytes.{half_byte}
 use Rattle.lists.proofs.TabulationLaws.{length_tab}
@@ -25,16 +25,14 @@ use Rattle.reading.specs.Book.{reading_part}
 use Rattle.reading.proofs.TurnsBack.{upper_lt, lower_lt}
 use Rattle.reading.proofs.ReadingTableLaws.{turn_back_rows, subtract_rows}
 use Rattle.table_maker.specs.Rows.{table_by}
-use Rattle.table_maker.specs.Made.{RoundReady, codings_of, keyed_by, summands, turned_rows}
+use Rattle.table_maker.specs.Made.{RoundReady, codings_of, keyed_by, summands, turned_by}
 use Rattle.table_maker.proofs.RowLaws.{length_table}
-use Rattle.book.proofs.BuildLaws.{inverse_at, inverse_below, mask_bit, sums_are, turned_are}
+use Rattle.table_maker.proofs.MadeLaws.{length_turned}
+use Rattle.book.proofs.BuildLaws.{mask_bit, sums_are, turned_are}
+use Rattle.table_maker.proofs.InvertedLaws.{inverse_at, inverse_below}
 use Rattle.reading_book.specs.Made.{made_turn_back, difference_entries, made_subtract}
 
 -- ---- lengths
-
-pub length_turn_back : (s R : List ℕ) (p : ℕ) → length (made_turn_back s R p) ≡ 256
-unfolding made_turn_back
-length_turn_back s R p = length_table ◌+◌ _ _ _ ∙ ap (λ (n : ℕ). n * 16) (length_tab 16 _)
 
 pub length_subtract : (m n A R k : List ℕ) (p : ℕ) → length (made_subtract m n A R k p) ≡ 512
 unfolding made_subtract
@@ -57,18 +55,13 @@ lower_back_is (suc zero) j h = (lit< tt, refl)
 lower_back_is (suc (suc zero)) j h = (lit< tt, refl)
 lower_back_is (suc (suc (suc i))) j h = no_fourth i h
 
-cut_is : (i : ℕ) → i < 3 → get_or (1 ∷ 0 ∷ 1 ∷ []) i 0 ≡ cut_of i
+pub cut_is : (i : ℕ) → i < 3 → get_or (1 ∷ 0 ∷ 1 ∷ []) i 0 ≡ cut_of i
 cut_is zero h = refl
 cut_is (suc zero) h = refl
 cut_is (suc (suc zero)) h = refl
 cut_is (suc (suc (suc i))) h = no_fourth i h
 
 -- ---- a table from its prepared parts is the table that is named
-
-pub turn_back_made : (s R e : List ℕ) (p x y : ℕ) → p < 24 → e ≡ drop (16 * p) R → x ≡ 16 * (8 * (p / 8) + upper_back (p / 8) (p % 8))
-    → y ≡ 16 * (8 * (p / 8) + lower_back (p / 8) (p % 8)) → turned_rows s x y (get_or (1 ∷ 0 ∷ 1 ∷ []) (p / 8) 0) e ≡ made_turn_back s R p
-unfolding made_turn_back
-turn_back_made s R e p x y hp ee ex ey = rw (ee, ex, ey, cut_is (p / 8) (omega arith))
 
 pub subtract_made : (m n A R K a b e : List ℕ) (p k l c : ℕ) → a ≡ tab 32 (summands m (16 * p) 15 c) → b ≡ tab 16 (keyed_by n (16 * p) k)
     → e ≡ tab 32 (difference_entries A R l p) → c ≡ mask_into R (p / 8) (p % 8) → k ≡ half_byte (get_or K (2 * (p / 8)) 0) (p % 8)
@@ -87,7 +80,7 @@ set_low s h = low_set s (λ w j hw hj. h (8 * w + j) (omega arith))
 
 module _ (B A R K : List ℕ) (ready : RoundReady B A R) where
   turn_back_of : (p : ℕ) → p < 24 → made_turn_back (inverted 24 B) R p ≡ tab turn_length (turn_back_table (codings_of B A R) (p / 8) (p % 8))
-  unfolding made_turn_back turn_back_table codings_of
+  unfolding turned_by turn_back_table codings_of
   turn_back_of p hp =
       let i = p / 8 in
       let j = p % 8 in
@@ -130,7 +123,7 @@ module _ (B A R K : List ℕ) (ready : RoundReady B A R) where
 -- ---- parts that are put together
 
 pub turns_back_length : (x s R : List ℕ) → x ≡ chunks 24 (made_turn_back s R) → length x ≡ 6144
-turns_back_length x s R e = ap length e ∙ length_chunks (made_turn_back s R) 256 (length_turn_back s R) 24
+turns_back_length x s R e = ap length e ∙ length_chunks (made_turn_back s R) 256 (length_turned upper_back lower_back cut_of s R) 24
 
 pub subtracts_length : (x m n A R K : List ℕ) → x ≡ chunks 24 (made_subtract m n A R K) → length x ≡ 12288
 subtracts_length x m n A R K e = ap length e ∙ length_chunks (made_subtract m n A R K) 512 (length_subtract m n A R K) 24

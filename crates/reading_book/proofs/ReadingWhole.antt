@@ -11,18 +11,16 @@ use Rattle.cipher.specs.Coding.{Set, set_of, inverted}
 use Rattle.cipher.specs.Chain.{round_codings}
 use Rattle.cipher.specs.Book.{group_part}
 use Rattle.cipher.proofs.BookLaw.{group_size}
-use Rattle.reading.specs.Book.{reading_part, row_back, reading_book_round, reading_book_group, reading_book_of}
+use Rattle.reading.specs.Book.{row_back, reading_book_round, reading_book_group, reading_book_of}
 use Rattle.reading.proofs.ReadingBookLaw.{reading_size}
 use Rattle.table_maker.specs.Made.{made_fold}
 use Rattle.book.proofs.BuildLaws.{group_is}
 
--- a round under the row that the code takes for it
-pub round_back_is : (r q l : ℕ) (rows : List (List ℕ)) (ch x : List ℕ) → q ≡ r → x ≡ reading_part (round_codings r ch l) (get_or rows (q - 1 - l) [])
-    → x ≡ reading_book_round r rows ch l
-unfolding reading_book_round
-round_back_is r q l rows ch x e d =
+-- the row that the code takes for round l
+pub row_back_is : (r q l : ℕ) (rows : List (List ℕ)) → q ≡ r → get_or rows (q - 1 - l) [] ≡ row_back r rows l
+row_back_is r q l rows e =
     let a : q - 1 - l ≡ r - suc l = omega arith in
-    d ∙ ap (λ (n : ℕ). reading_part (round_codings r ch l) (get_or rows n [])) a
+    ap (λ (n : ℕ). get_or rows n []) a
 
 pub round_back_length : (r : ℕ) (rows : List (List ℕ)) (ch : List ℕ) (l : ℕ) → length (reading_book_round r rows ch l) ≡ 18432
 unfolding reading_book_round

@@ -1,6 +1,6 @@
 -- The tables of a reading book (document 02, 2026-01) as the builder makes them, from codings inverted beforehand: R has the bytes that
 -- a chain has for a round, A begins with the set after the round.
-use Rattle.std.specs.Prelude.{List, ℕ, ◌+◌, ◌*◌, ◌/◌, ◌%◌, get_or, drop}
+use Rattle.std.specs.Prelude.{List, ℕ, ◌+◌, ◌*◌, ◌/◌, ◌%◌, get_or}
 use Rattle.lists.specs.Tabulation.{tab}
 use Rattle.lists.specs.HalfBytes.{half_byte}
 use Rattle.cipher.specs.Lengths.{coding_length}
@@ -10,13 +10,11 @@ use Rattle.cipher.specs.Chain.{mask_into, mask_out_of}
 use Rattle.reading.specs.LikeSealing.{cut_of, sum_coding}
 use Rattle.reading.specs.Tables.{upper_back, lower_back}
 use Rattle.table_maker.specs.Rows.{table_by}
-use Rattle.table_maker.specs.Made.{keyed_by, summands, turned_rows}
+use Rattle.table_maker.specs.Made.{keyed_by, summands, turned_by}
 
 -- turn table p: s has the words 0 to 2 of the set before the round inverted
-unfoldable pub made_turn_back : List ℕ → List ℕ → ℕ → List ℕ
-made_turn_back s R p =
-    turned_rows s (coding_length * (8 * (p / 8) + upper_back (p / 8) (p % 8))) (coding_length * (8 * (p / 8) + lower_back (p / 8) (p % 8))) (cut_of (p / 8))
-    (drop (coding_length * p) R)
+abbrev pub made_turn_back : List ℕ → List ℕ → ℕ → List ℕ
+made_turn_back = turned_by upper_back lower_back cut_of
 
 -- the entry of each sum of the add table that subtract table p is, under the key half byte l of the difference
 abbrev pub difference_entries : List ℕ → List ℕ → ℕ → ℕ → ℕ → ℕ

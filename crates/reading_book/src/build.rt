@@ -13,38 +13,36 @@ ghost use Rattle.reading_book.specs.Answers.{build_reading_answer};
 
 use crate::rounds::round_parts;
 use cipher::chain::check_rule;
-use cipher::invert::invert;
 use cipher::lengths;
-use cipher::refusal::{Outcome, Refusal};
-use cipher::schedules::{Schedule, ScheduleFound, key_rows};
-use cipher::size::{KeySize, SizeFound};
+use cipher::refusal::Refusal;
+use cipher::rows::RoundKeys;
+use cipher::schedules::KeyKind;
 use reading::lengths::reading_len;
 use table_maker::folds::fold_tables;
+use table_maker::inverted::InvertedSet;
 
 // The group: folds from the sets in the fronts of last and of before to that in the front of first,
-// under no key.
+// under no key. Permutations are asked as in crate book.
 fn group(last: &[u8], before: &[u8], first: &[u8], out: &mut [u8])
     requires { FirstPermutations 32 last.now × (set_length ≤ length last.now) × FirstPermutations 32 before.now × (set_length ≤ length before.now) × (set_length ≤ length first.now) × (length out.old ≡ group_length) }
     ensures { out.new ≡ group_part (set_of last.now) (set_of before.now) (set_of first.now) zeros }
 {
-    let mut s = [0u8; lengths::SET];
-    invert(last, lengths::SET_CODINGS, &mut s);
-    let mut u = [0u8; lengths::SET];
-    invert(before, lengths::SET_CODINGS, &mut u);
+    let s = InvertedSet::of(last);
+    let u = InvertedSet::of(before);
     fold_tables(&s, &u, first, [0u8; lengths::BLOCK], out);
 }
 
 // The reading book of a valid reading chain, into a buffer of its length. The group folds from set r,
 // and from set 0 for the block before, to the message set.
-fn fill(size: KeySize, chain: &[u8], rows: [[u32; 6]; 32], out: &mut [u8])
-    requires { ReadingChain size chain.now × (length out.old ≡ reading_book_length size) }
-    ensures { out.new ≡ reading_book_of (S.rounds size) rows chain.now }
+fn fill(keys: &RoundKeys, chain: &[u8], out: &mut [u8])
+    requires { ReadingChain keys.now.size chain.now × (length out.old ≡ reading_book_length keys.now.size) }
+    ensures { out.new ≡ reading_book_of (S.rounds keys.now.size) keys.now.rows chain.now }
 {
-    let r = size.rounds();
+    let r = keys.size.rounds();
     let last = lengths::SET * (r + 1);
     let from = lengths::ROUND_TABLES * r;
     let end = from + lengths::GROUP;
-    round_parts(size, chain, rows, &mut out[0..from]);
+    round_parts(keys, chain, &mut out[0..from]);
     group(
         &chain[last..],
         &chain[lengths::SET..],
@@ -54,24 +52,15 @@ fn fill(size: KeySize, chain: &[u8], rows: [[u32; 6]; 32], out: &mut [u8])
 }
 
 // The reading book of a key and a reading chain, into the front of out.
-pub fn build_reading(schedule: u8, key: &[u8], chain: &[u8], out: &mut [u8]) -> Outcome
+pub fn build_reading(schedule: u8, key: &[u8], chain: &[u8], out: &mut [u8]) -> Result<(), Refusal>
     ensures { (outcome_of result, out.new) ≡ build_reading_answer schedule key.now chain.now out.old }
 {
-    let ScheduleFound::Numbered(named) = Schedule::of_number(schedule) else {
-        return Outcome::Refused(Refusal::ScheduleNumber);
-    };
-    let SizeFound::Found(size) = KeySize::of_key_len(key.len()) else {
-        return Outcome::Refused(Refusal::KeyLength);
-    };
-    let checked = check_rule(size, chain, 3, 0);
-    if checked.number() != 0 {
-        return checked;
-    }
-    let end = reading_len(size);
+    let kind = KeyKind::of(schedule, key)?;
+    check_rule(kind.size, chain, 3, 0)?;
+    let end = reading_len(kind.size);
     if out.len() < end {
-        return Outcome::Refused(Refusal::ShortBuffer);
+        return Err(Refusal::ShortBuffer);
     }
-    let rows = key_rows(named, size, key);
-    fill(size, chain, rows, &mut out[0..end]);
-    Outcome::Done
+    fill(&kind.round_keys(key), chain, &mut out[0..end]);
+    Ok(())
 }

@@ -4,63 +4,59 @@ ghost use Rattle.std.specs.Prelude.{◌≡◌, ◌*◌, ◌<◌, length};
 ghost use Rattle.cipher.specs.Lengths.{round_length};
 ghost use Rattle.lists.specs.Tabulation.{chunks};
 ghost use Rattle.cipher.specs.KeySize as S;
-ghost use Rattle.cipher.specs.Chain.{round_codings};
 ghost use Rattle.reading.specs.Chain.{ReadingChain};
 ghost use Rattle.reading.specs.Book.{reading_part, reading_book_round};
-ghost use Rattle.table_maker.specs.Made.{RoundReady, codings_of};
+ghost use Rattle.table_maker.specs.Made.{codings_of};
 
 use crate::subtracts::subtract_tables;
-use crate::turns::turn_tables;
-use cipher::invert::invert;
+use crate::turns::Reading;
 use cipher::lengths;
-use cipher::size::KeySize;
+use cipher::rows::RoundKeys;
+use parts::in_parts;
 use reading::lengths::SUBTRACTS;
+use table_maker::adds::Middles;
+use table_maker::inverted::InvertedWords;
+use table_maker::rounds::Round;
+use table_maker::turns::turn_tables;
 
-// A round's tables, from the set before it, the set after it and a chain's bytes for the round, each in
-// the front of a slice, under the row k of round keys. Of each set the words 0 to 2 are decoded.
-fn round_tables(before: &[u8], after: &[u8], round: &[u8], k: [u32; 6], out: &mut [u8])
-    requires { RoundReady before.now after.now round.now × (length out.old ≡ round_length) }
-    ensures { out.new ≡ reading_part (codings_of before.now after.now round.now) k }
+// A round's tables, under the row k of round keys. Of each set the words 0 to 2 are decoded.
+fn round_tables(round: Round, k: [u32; 6], out: &mut [u8])
+    requires { length out.old ≡ round_length }
+    ensures { out.new ≡ reading_part (codings_of round.entry.before.now round.entry.after.now round.entry.middles.now) k }
 {
-    let mut s = [0u8; lengths::MASKS];
-    invert(before, lengths::MIDDLES, &mut s);
-    let mut m = [0u8; lengths::MASKS];
-    invert(round, lengths::MIDDLES, &mut m);
-    let mut n = [0u8; lengths::MASKS];
-    invert(after, lengths::MIDDLES, &mut n);
-    turn_tables(&s, round, &mut out[0..SUBTRACTS]);
+    let s = InvertedWords::of(round.before);
+    let m = InvertedWords::of(round.middles);
+    let n = InvertedWords::of(round.after);
+    let middles = Middles {
+        bytes: round.middles,
+    };
+    turn_tables::<Reading>(&s, round.middles, &mut out[0..SUBTRACTS]);
     subtract_tables(
         &m,
         &n,
-        after,
-        round,
+        round.after,
+        middles,
         k,
         &mut out[SUBTRACTS..lengths::ROUND_TABLES],
     );
 }
 
-// The tables of round l of a reading chain.
-fn round_at(size: KeySize, chain: &[u8], k: [u32; 6], l: usize, out: &mut [u8])
-    requires { ReadingChain size chain.now × (l < S.rounds size) × (length out.old ≡ round_length) }
-    ensures { out.new ≡ reading_part (round_codings (S.rounds size) chain.now l) k }
+// The tables of round l of a reading chain; the last row of round keys is that of round 0.
+fn round_at(keys: &RoundKeys, chain: &[u8], l: usize, out: &mut [u8])
+    requires { ReadingChain keys.now.size chain.now × (l < S.rounds keys.now.size) × (length out.old ≡ round_length) }
+    ensures { out.new ≡ reading_book_round (S.rounds keys.now.size) keys.now.rows chain.now l }
 {
-    let r = size.rounds();
-    let before = lengths::SET * (l + 1);
-    let after = lengths::SET * (l + 2);
-    let round = lengths::SET * (r + 2) + lengths::ROUND_CODINGS * l;
-    round_tables(&chain[before..], &chain[after..], &chain[round..], k, out);
+    let r = keys.size.rounds();
+    let round = Round::of_chain(keys.size, chain, l);
+    round_tables(round, keys.rows[r - 1 - l], out);
 }
 
-// The tables of all rounds, the last row of round keys first.
-pub fn round_parts(size: KeySize, chain: &[u8], rows: [[u32; 6]; 32], out: &mut [u8])
-    requires { ReadingChain size chain.now × (length out.old ≡ S.rounds size * round_length) }
-    ensures { out.new ≡ chunks (S.rounds size) (reading_book_round (S.rounds size) rows chain.now) }
+// The tables of all rounds.
+pub fn round_parts(keys: &RoundKeys, chain: &[u8], out: &mut [u8])
+    requires { ReadingChain keys.now.size chain.now × (length out.old ≡ S.rounds keys.now.size * round_length) }
+    ensures { out.new ≡ chunks (S.rounds keys.now.size) (reading_book_round (S.rounds keys.now.size) keys.now.rows chain.now) }
 {
-    let r = size.rounds();
-    let mut at: usize = 0;
-    for l in 0..r {
-        let to = at + lengths::ROUND_TABLES;
-        round_at(size, chain, rows[r - 1 - l], l, &mut out[at..to]);
-        at = to;
-    }
+    in_parts(out, lengths::ROUND_TABLES, keys.size.rounds(), |l, part| {
+        round_at(keys, chain, l, part)
+    });
 }

@@ -18,7 +18,7 @@ use Rattle.cipher.specs.Tables.{table_round, table_rounds}
 use Rattle.cipher.specs.Chain.{Chain, chain_set, chain_tests}
 use Rattle.cipher.specs.Answers.{block_tests}
 use Rattle.cipher.specs.declared.size.KeySize.{KeySize}
-use Rattle.cipher.specs.declared.size.SizeFound.TheVariants.{Found, Unknown}
+use Rattle.std.proofs.Common.{Some, None}
 use Rattle.cipher.proofs.KeySizeLaws.{found_length}
 use Rattle.cipher.proofs.AnswerLaws.{length_refused, length_taken, block_refused, block_taken_lem}
 use Rattle.cipher.proofs.ChainRefusals.{chain_length_refused, chain_taken}
@@ -30,7 +30,7 @@ use Rattle.round.proofs.RoundLaws.{all_rounds}
 -- ---- length byte and key
 
 -- a missing length byte is no length of a key
-pub no_length : (i : List ℕ) → length i ≡ 0 → size_of_key (length_byte i) ≡ Unknown
+pub no_length : (i : List ℕ) → length i ≡ 0 → size_of_key (length_byte i) ≡ None
 unfolding size_by
 no_length [] h = refl
 no_length (x ∷ i) h = absurd (omega arith)
@@ -45,11 +45,11 @@ module _ (i : List ℕ) where
   abbrev pub lines : KeySize → List ℕ
   lines z = two_lines z key (chain_part z (after_key (length_byte i) i)) (block_part z (after_key (length_byte i) i))
 
-  pub printed_length : size_of_key (length_byte i) ≡ Unknown → printed i ≡ refused_text 1
+  pub printed_length : size_of_key (length_byte i) ≡ None → printed i ≡ refused_text 1
   unfolding printed
   printed_length e = length_refused (length_byte i) tests refused_text lines e
 
-  module _ (z : KeySize) (e : size_of_key (length_byte i) ≡ Found z) where
+  module _ (z : KeySize) (e : size_of_key (length_byte i) ≡ Some z) where
     -- the other tests decide
     pub length_known : printed i ≡ first (tests z) refused_text (lines z)
     unfolding printed
@@ -121,7 +121,7 @@ module _ (i : List ℕ) (n : ℕ) (e : n ≡ length_byte i) where
       let d : length (key_part (length_byte i) i) ≡ length (drop 1 i) = ap length (take_all (length_byte i) (drop 1 i) (omega arith)) in
       omega arith
 
-  pub key_length_lem : (z : KeySize) → size_of_key n ≡ Found z → 1 + n ≤ length i → length (take (1 + n - 1) (drop 1 i)) ≡ key_length z
+  pub key_length_lem : (z : KeySize) → size_of_key n ≡ Some z → 1 + n ≤ length i → length (take (1 + n - 1) (drop 1 i)) ≡ key_length z
   key_length_lem z f h = ap length key_is ∙ key_whole_lem h ∙ sym e ∙ found_length key_length n z f
 
 -- ---- the two lines, from the blocks that the code has

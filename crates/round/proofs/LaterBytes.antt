@@ -9,8 +9,7 @@ use lib.Seq.{get_or-take, take-take, drop-drop}
 use Rattle.lists.specs.Refusals.{first}
 use Rattle.cipher.specs.KeySize.{key_length, chain_length, size_of_key}
 use Rattle.cipher.specs.declared.size.KeySize.{KeySize}
-use Rattle.cipher.specs.declared.size.SizeFound.{SizeFound}
-use Rattle.cipher.specs.declared.size.SizeFound.TheVariants.{Found, Unknown}
+use Rattle.std.proofs.Common.{Option, Some, None}
 use Rattle.cipher.proofs.KeySizeLaws.{found_length}
 use Rattle.round.specs.Text.{refused_text}
 use Rattle.round.specs.Round.{two_lines, length_byte, key_part, after_key, chain_part, block_part, key_whole, rest_tests, printed, wanted_of, wanted}
@@ -27,7 +26,7 @@ module _ (i : List ℕ) (m : ℕ) (h : wanted (length_byte i) ≤ m) where
   byte_kept : 1 ≤ m → length_byte (take m i) ≡ length_byte i
   byte_kept l = get_or-take m i 0 0 l
 
-  known : (z : KeySize) → size_of_key (length_byte i) ≡ Found z → printed (take m i) ≡ printed i
+  known : (z : KeySize) → size_of_key (length_byte i) ≡ Some z → printed (take m i) ≡ printed i
   known z e =
       let n = length_byte i in
       let w : wanted n ≡ 1 + key_length z + chain_length z + 16 = ap wanted_of e in
@@ -46,7 +45,7 @@ module _ (i : List ℕ) (m : ℕ) (h : wanted (length_byte i) ≤ m) where
       ∙ (λ t. first (key_whole (b t) (p t) ++ rest_tests z (q t) (s t)) refused_text (two_lines z (p t) (q t) (s t)))
       ∙ sym (length_known i z e)
 
-  unknown : size_of_key (length_byte i) ≡ Unknown → printed (take m i) ≡ printed i
+  unknown : size_of_key (length_byte i) ≡ None → printed (take m i) ≡ printed i
   unknown e =
       let w : wanted (length_byte i) ≡ 1 = ap wanted_of e in
       printed_length (take m i) (ap size_of_key (byte_kept (omega arith)) ∙ e) ∙ sym (printed_length i e)
@@ -54,6 +53,6 @@ module _ (i : List ℕ) (m : ℕ) (h : wanted (length_byte i) ≤ m) where
   pub later_unread : printed (take m i) ≡ printed i
   later_unread = go (size_of_key (length_byte i)) refl
     where
-      go : (f : SizeFound) → size_of_key (length_byte i) ≡ f → printed (take m i) ≡ printed i
-      go (Found z) e = known z e
-      go Unknown e = unknown e
+      go : (f : Option KeySize) → size_of_key (length_byte i) ≡ f → printed (take m i) ≡ printed i
+      go (Some z) e = known z e
+      go None e = unknown e

@@ -1,5 +1,4 @@
 pub mod TextLaws
-pub mod ReadingLaws
 pub mod RoundLaws
 pub mod AnswerLaws
 pub mod RoundMeaning

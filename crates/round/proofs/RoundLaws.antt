@@ -6,6 +6,8 @@ use Prim.Native.Nat.{ℕ, zero, suc, ◌+◌, ◌-◌, ◌*◌, ◌%◌, ◌≤�
 use native.Mathlib.Nat.{le_of_eq, mod-eq_of_lt}
 use native.Mathlib.Omega.{arith}
 use lib.ListN.{length, get_or, take, drop, length-drop}
+use Rattle.std.proofs.Common.{Result, Ok, Err}
+use Rattle.std.specs.Result.{IsOk}
 use Rattle.lists.proofs.PartLaws.{part_end, grown_whole}
 use Rattle.cipher.specs.KeySize.{rounds, size_of_key}
 use Rattle.cipher.specs.Schedules.{key_rows}
@@ -15,16 +17,24 @@ use Rattle.cipher.specs.Chain.{Chain, chain_set, round_codings}
 use Rattle.cipher.specs.Book.{book_round}
 use Rattle.cipher.specs.declared.size.KeySize.{KeySize}
 use Rattle.cipher.specs.declared.schedules.Schedule.TheVariants.{Lea}
+use Rattle.cipher.specs.Refusal.{number_of, outcome_of}
+use Rattle.cipher.specs.Answers.{block_told}
+use Rattle.cipher.specs.declared.refusal.Refusal.{Refusal}
+use Rattle.cipher.proofs.AnswerLaws.{number_more}
 use Rattle.cipher.proofs.KeySizeLaws.{size_of_key_lem, rounds_le, rounds_more}
 use Rattle.cipher.proofs.InverseLaws.{length_inverted, decoded_inverted, low_inverted}
 use Rattle.cipher.proofs.SchedulesLaws.{numbered_0}
 use Rattle.cipher.proofs.BookLaw.{round_size}
 use Rattle.book.specs.Answers as book
 use Rattle.book.proofs.AnswerLaws.{built_done}
-use Rattle.book.proofs.BuildLaws.{sets_permute}
+use Rattle.table_maker.proofs.ChainLaws.{sets_permute}
 use Rattle.driver.specs.Driver as driver
 use Rattle.driver.proofs.AnswerLaws.{tables_done}
 use Rattle.round.specs.Round.{Ready, tables_of, later_rounds}
+
+-- a refusal's number is not 0
+pub not_zero : (q : Refusal) → number_of q ≡ 0 → ⊥
+not_zero q e = omega (arith, number_more q)
 
 -- ---- the tables of a round, built and run
 
@@ -33,19 +43,29 @@ module _ (z : KeySize) (key ch : List ℕ) (h : Ready z key ch) (l : ℕ) (b : l
   unfolding book_round
   tables_size = round_size (round_codings (rounds z) ch l) (get_or (key_rows Lea z key) l [])
 
-  pub tables_built : (n : ℕ) (t u : List ℕ) → length t ≡ 18432 → (n, u) ≡ book.build_round_answer 0 key ch l t → u ≡ tables_of z key ch l
-  tables_built n t u e q =
-      ap (λ (p : ℕ × List ℕ). p.1)
-      (q ∙ sym (built_done 0 3 0 key ch t (λ z. 18432) (λ k z. book_round (rounds z) (key_rows k z key) ch (l % rounds z)) Lea z
-      (numbered_0 0 refl, ap size_of_key h.0 ∙ size_of_key_lem z) h.1 (le_of_eq (sym e)) (book_round (rounds z) (key_rows Lea z key) ch (l % rounds z)) refl))
-      ∙ grown_whole (book_round (rounds z) (key_rows Lea z key) ch (l % rounds z)) t 18432 (le_of_eq e)
-      ∙ ap (tables_of z key ch) (mod-eq_of_lt b)
+  made : (t : List ℕ) → length t ≡ 18432 → (0, tables_of z key ch l) ≡ book.build_round_answer 0 key ch l t
+  made t e =
+      let x = book_round (rounds z) (key_rows Lea z key) ch (l % rounds z) in
+      ap (λ (u : List ℕ). (0, u)) (sym (grown_whole x t 18432 (le_of_eq e) ∙ ap (tables_of z key ch) (mod-eq_of_lt b)))
+      ∙ built_done 0 3 0 key ch t (λ z. 18432) (λ k z. book_round (rounds z) (key_rows k z key) ch (l % rounds z)) Lea z
+      (numbered_0 0 refl, ap size_of_key h.0 ∙ size_of_key_lem z) h.1 (le_of_eq (sym e)) x refl
 
-  pub round_run : (n m : ℕ) (t u x y : List ℕ) → length t ≡ 18432 → length x ≡ 16
-      → (n, u) ≡ book.build_round_answer 0 key ch l t → (m, y) ≡ driver.run_round_answer u x → y ≡ table_round (tables_of z key ch l) x
-  round_run n m t u x y e f p q =
-      let d = tables_built n t u e p in
-      ap (λ (p : ℕ × List ℕ). p.1) (q ∙ tables_done u x (ap length d ∙ tables_size) f) ∙ ap (λ (t : List ℕ). table_round t x) d
+  -- nothing is refused
+  pub built : (r : Result (Unit {0}) Refusal) (t u : List ℕ) → length t ≡ 18432 → (outcome_of r, u) ≡ book.build_round_answer 0 key ch l t → IsOk r × (u ≡ tables_of z key ch l)
+  built (Ok v) t u e q = (refl, ap (λ (p : ℕ × List ℕ). p.1) (q ∙ sym (made t e)))
+  built (Err w) t u e q =
+      absurd (not_zero w (ap (λ (p : ℕ × List ℕ). p.0) (q ∙ sym (made t e))))
+
+  pub ran : (a : Result (Unit {0}) Refusal) (r : Result (List ℕ) Refusal) (t u x : List ℕ) → length t ≡ 18432 → length x ≡ 16
+      → (outcome_of a, u) ≡ book.build_round_answer 0 key ch l t → block_told r ≡ driver.run_round_answer u x → r ≡ Ok (table_round (tables_of z key ch l) x)
+  ran a r t u x e f p q = each r (q ∙ tables_done u x (ap length d ∙ tables_size) f ∙ ap (λ (t : List ℕ). (0, table_round t x)) d)
+    where
+      d : u ≡ tables_of z key ch l
+      d = (built a t u e p).1
+
+      each : (r : Result (List ℕ) Refusal) → block_told r ≡ (0, table_round (tables_of z key ch l) x) → r ≡ Ok (table_round (tables_of z key ch l) x)
+      each (Ok y) q = ap Ok (ap (λ (p : ℕ × List ℕ). p.1) q)
+      each (Err w) q = absurd (not_zero w (ap (λ (p : ℕ × List ℕ). p.0) q))
 
 -- ---- rounds one after another
 

@@ -5,27 +5,14 @@ use Prim.Native.Nat.{ℕ, zero, suc, ◌+◌, ◌-◌, ◌*◌, ◌/◌, ◌%◌
 use native.Mathlib.Decide.{dec_lt}
 use native.Mathlib.Numerals.{unary_clauses}
 use native.Mathlib.Omega.{arith}
-use borrow.Author.Tests.{eq-eqb, ne_eqb, lt-ltb, le-ltb}
+use borrow.Author.Tests.{lt-ltb, le-ltb}
 use lib.Dec.{lit<}
-use lib.ListN.{length, get_or, drop, set, replicate, length-append}
+use borrow.Rule.Slice.PartMut.{put_mid}
+use lib.ListN.{length, get_or, take, drop, set, replicate, length-append}
 use Rattle.lists.specs.Tabulation.{tab, chunks}
 use Rattle.lists.proofs.PartLaws.{grown, fill_more}
 use Rattle.round.specs.Digits.{hex_digit_ascii}
 use Rattle.round.specs.Text.{hex_of, hex_digit, line, decimal_within, decimal, refused_word, refused_text, shown}
-
-pub digit_low : (d : ℕ) → d < 10 → 48 + d ≡ hex_digit_ascii d
-digit_low d h = rw (lt-ltb d 10 h)
-
-pub digit_high : (d : ℕ) → 10 ≤ d → 87 + d ≡ hex_digit_ascii d
-digit_high d h = rw (le-ltb d 10 h)
-
-pub hex_upper : (x k : ℕ) → k % 2 ≡ 0 → hex_digit_ascii (x / 16 % 16) ≡ hex_digit x k
-unfolding hex_digit
-hex_upper x k h = rw (eq-eqb (k % 2) 0 h)
-
-pub hex_lower : (x k : ℕ) → (k % 2 ≡ 0 → ⊥) → hex_digit_ascii (x % 16) ≡ hex_digit x k
-unfolding hex_digit
-hex_lower x k h = rw (ne_eqb (k % 2) 0 h)
 
 pub hex_each : (b : List ℕ) → tab 32 (λ k. hex_digit (get_or b (k / 2) 0) k) ≡ hex_of b
 unfolding hex_of hex_digit tab chunks
@@ -150,10 +137,21 @@ module _ (n k : ℕ) (q : List ℕ) (h : n < 2 ^ 32) (f : (k ≡ length (decimal
   text_length : length (refused_text n) ≡ 8 + k + 1
   text_length = ap length (sym text_is) ∙ length-append (refused_word ++ decimal n) (10 ∷ []) ∙ omega (arith, front_length)
 
-  pub refused_is : (8 + k + 1, set (refused_word ++ (q ++ [])) (8 + k) 10) ≡ shown (refused_text n)
+  refused_is : (8 + k + 1, set (refused_word ++ (q ++ [])) (8 + k) 10) ≡ shown (refused_text n)
   unfolding shown
   refused_is =
       let short = decimal_ten n h in
       let more = fill_more 71 (8 + k) 0 10 (refused_word ++ decimal n) front_length (omega (arith, f.0)) in
       let written = ap (λ (t : List ℕ). set t (8 + k) 10) filled ∙ more ∙ ap (λ (t : List ℕ). t ++ replicate (71 - (8 + k + 1)) 0) text_is in
       ap (λ (t : List ℕ). (8 + k + 1, t)) written ∙ ap (λ (m : ℕ). (m, refused_text n ++ replicate (71 - m) 0)) (sym text_length)
+
+-- the same where w was put in place of the word
+module _ (w : List ℕ) (v : w ≡ refused_word) where
+  pub after_word : length (take 63 (drop 8 (w ++ replicate 63 0))) ≡ 63
+  after_word = ap (λ (w : List ℕ). length (take 63 (drop 8 (w ++ replicate 63 0)))) v
+
+  pub refused_put : (n k : ℕ) (q : List ℕ) → n < 2 ^ 32 → (k ≡ length (decimal n)) × (q ≡ decimal n ++ drop k (take 63 (drop 8 (w ++ replicate 63 0))))
+      → (8 + k + 1, set (put_mid 8 63 (w ++ replicate 63 0) q) (8 + k) 10) ≡ shown (refused_text n)
+  refused_put n k q h f =
+      ap (λ (w : List ℕ). (8 + k + 1, set (put_mid 8 63 (w ++ replicate 63 0) q) (8 + k) 10)) v
+      ∙ refused_is n k q h (f.0, f.1 ∙ ap (λ (w : List ℕ). decimal n ++ drop k (take 63 (drop 8 (w ++ replicate 63 0)))) v)

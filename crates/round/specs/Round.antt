@@ -1,6 +1,6 @@
 -- The round program (document 01, "Table of examples", its last paragraph): the parts of its input, and what it prints for
 -- any input.
-use Rattle.std.specs.Prelude.{◌≡◌, Bool, not, List, [], ◌∷◌, ◌++◌, ℕ, suc, ◌+◌, ◌-◌, ◌≤◌, eqb, length, get_or, take, drop}
+use Rattle.std.specs.Prelude.{◌≡◌, Option, Some, None, Bool, not, List, [], ◌∷◌, ◌++◌, ℕ, suc, ◌+◌, ◌-◌, ◌≤◌, eqb, length, get_or, take, drop}
 use Rattle.lists.specs.Blocks.{block_length}
 use Rattle.lists.specs.Refusals.{first}
 use Rattle.cipher.specs.KeySize.{rounds, key_length, chain_length, size_of_key}
@@ -12,8 +12,6 @@ use Rattle.cipher.specs.Book.{book_round}
 use Rattle.cipher.specs.Answers.{key_length_tests, key_length_size, block_tests}
 use Rattle.cipher.specs.declared.size.KeySize.{KeySize}
 use Rattle.cipher.specs.declared.schedules.Schedule.TheVariants.{Lea}
-use Rattle.cipher.specs.declared.size.SizeFound.{SizeFound}
-use Rattle.cipher.specs.declared.size.SizeFound.TheVariants.{Found, Unknown}
 use Rattle.round.specs.Text.{line, refused_text}
 
 -- ---- the rounds of a key of size z and a chain ch
@@ -95,7 +93,7 @@ printed_after z key s = printed_on z key (chain_part z s) (drop (chain_length z)
 
 -- an input that is not refused: length byte and key of size z, a valid chain, 16 bytes more
 pub record Input (z : KeySize) (i : List ℕ) : Type 0 where
-  pub size : size_of_key (length_byte i) ≡ Found z
+  pub size : size_of_key (length_byte i) ≡ Some z
   pub key : length (key_part (length_byte i) i) ≡ length_byte i
   pub chain : Chain z (chain_part z (after_key (length_byte i) i))
   pub block : block_length ≤ length (drop (chain_length z) (after_key (length_byte i) i))
@@ -105,9 +103,9 @@ abbrev pub plain_block : KeySize → List ℕ → List ℕ
 plain_block z i = decoded (chain_set (chain_part z (after_key (length_byte i) i)) 0) (block_part z (after_key (length_byte i) i))
 
 -- how many bytes the program reads where the first is x
-abbrev pub wanted_of : SizeFound → ℕ
-wanted_of (Found z) = 1 + key_length z + chain_length z + block_length
-wanted_of Unknown = 1
+abbrev pub wanted_of : Option KeySize → ℕ
+wanted_of (Some z) = 1 + key_length z + chain_length z + block_length
+wanted_of None = 1
 
 abbrev pub wanted : ℕ → ℕ
 wanted x = wanted_of (size_of_key x)

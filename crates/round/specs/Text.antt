@@ -1,10 +1,12 @@
 -- What the round program prints (document 01, "Table of examples", its last paragraph): "refused N", or lines of a round
 -- number, a space and a block in lower-case hex.
-use Rattle.std.specs.Prelude.{cond, List, [], ◌∷◌, ◌++◌, ℕ, zero, suc, ◌-◌, ◌/◌, ◌%◌, eqb, ltb, length, get_or, replicate}
+use Rattle.std.specs.Prelude.{Result, Ok, Err, cond, List, [], ◌∷◌, ◌++◌, ℕ, zero, suc, ◌-◌, ◌/◌, ◌%◌, eqb, ltb, length, get_or, replicate}
 use Rattle.lists.specs.Blocks.{block_length}
 use Rattle.lists.specs.Tabulation.{chunks}
+use Rattle.cipher.specs.Refusal.{number_of}
+use Rattle.cipher.specs.declared.refusal.Refusal.{Refusal}
 use Rattle.round.specs.Digits.{hex_digit_ascii, last_digits}
-use Rattle.round.specs.declared.text.Report.{Report}
+use Rattle.round.specs.declared.page.Report.{Report}
 
 -- a block in hex: two digits a byte
 unfoldable pub hex_of : List ℕ → List ℕ
@@ -39,3 +41,8 @@ report_told a = (a.length, a.text)
 
 unfoldable pub shown : List ℕ → ℕ × List ℕ
 shown t = (length t, t ++ replicate (71 - length t) 0)
+
+-- an answer is told by its report, or by the text of its refusal
+abbrev pub told : Result Report Refusal → ℕ × List ℕ
+told (Ok a) = report_told a
+told (Err q) = shown (refused_text (number_of q))

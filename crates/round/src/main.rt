@@ -10,10 +10,11 @@ ghost use Rattle.round.specs.Round.{wanted as wanted_bytes};
 
 use cipher::invert::wide;
 use cipher::lengths;
-use cipher::size::{KeySize, SizeFound};
+use cipher::size::KeySize;
 use std::io;
 use std::io::Read;
 
+mod page; // page.rt: a text in fixed memory
 mod text; // text.rt: lines and refusals
 mod rounds; // rounds.rt: the rounds, by the tables of one at a time
 mod report; // report.rt: what is printed for any input
@@ -35,7 +36,7 @@ fn room() -> [u8; LONGEST]
 fn wanted(first: u8) -> usize
     ensures { (result ≡ wanted_bytes first) × (1 ≤ result) × (result ≤ 30513) }
 {
-    let SizeFound::Found(size) = KeySize::of_key_len(wide(first)) else {
+    let Some(size) = KeySize::of_key_len(wide(first)) else {
         return 1;
     };
     1 + size.key_len() + size.chain_len() + lengths::BLOCK
@@ -48,6 +49,7 @@ fn read_full(from: &mut impl Read, part: &mut [u8]) -> io::Result<usize>
     ensures err { OnErr result (length part.new ≡ length part.old) }
 {
     let mut done = 0;
+    // By a count: how far a turn comes is what the read says.
     while done < part.len() {
         let n = from.read(&mut part[done..])?;
         if n == 0 {
@@ -65,13 +67,10 @@ fn read_input(from: &mut impl Read, input: &mut [u8]) -> io::Result<usize>
     ensures ok { ReadsAtMost result input.new }
     ensures err { OnErr result (length input.new ≡ length input.old) }
 {
-    let mut head = [0u8; 1];
-    if read_full(from, &mut head)? == 0 {
+    if read_full(from, &mut input[0..1])? == 0 {
         return Ok(0);
     }
-    let first = head[0];
-    let end = wanted(first);
-    input[0] = first;
+    let end = wanted(input[0]);
     let n = read_full(from, &mut input[1..end])?;
     Ok(1 + n)
 }
@@ -79,8 +78,5 @@ fn read_input(from: &mut impl Read, input: &mut [u8]) -> io::Result<usize>
 fn main(rt: HostRuntime) -> io::Result<()> {
     let mut input = room();
     let n = read_input(&mut rt.stdin(), &mut input)?;
-    let told = report::report(&input[..n]);
-    let text = told.text;
-    let length = told.length;
-    rt.write_all(&text[..length])
+    rt.write_all(report::report(&input[..n]).bytes())
 }

@@ -3,25 +3,24 @@ ghost use Rattle.std.specs.Prelude.{◌≡◌, ◌++◌, ◌≤◌, ◌<◌, len
 ghost use Rattle.round.specs.Digits.{hex_digit_ascii};
 ghost use Rattle.round.specs.Text.{hex_digit, hex_of, line, decimal, refused_text, shown, report_told};
 
-// The bytes of two lines, the longest text: 2 and 3 in front of a block, 32 for it, a newline.
-const LONGEST: usize = 2 + 3 + 2 * (32 + 1);
-
-// The text that is printed: the first `length` bytes of `text`; after them are zeros.
-#[derive(Clone, Copy)]
-pub struct Report {
-    pub text: [u8; LONGEST],
-    pub length: usize,
-}
+use crate::page::{LONGEST, Report};
+use std::array;
 
 // A digit in ASCII.
+#[tactic(auto, using(std::proofs::lemmas::Bool::Decides::nat_tests))]
 fn digit(d: usize) -> u8
     requires { d < 16 }
     ensures { result ≡ hex_digit_ascii d }
 {
-    if d < 10 { 48 + d as u8 } else { 87 + d as u8 }
+    if d < 10 {
+        b'0' + d as u8
+    } else {
+        b'a' + (d - 10) as u8
+    }
 }
 
 // Digit k of a block in hex, from the byte x that it is in: the upper half of a byte comes first.
+#[tactic(auto, using(std::proofs::lemmas::Bool::Decides::nat_tests), unfolding(crate::specs::Text::hex_digit))]
 fn hex_digit(x: u8, k: usize) -> u8
     ensures { result ≡ hex_digit x k }
 {
@@ -33,13 +32,10 @@ fn hex_digit(x: u8, k: usize) -> u8
 }
 
 // A block in hex.
-fn put_hex(b: [u8; 16], out: &mut [u8])
-    requires { length out.old ≡ 32 }
-    ensures { out.new ≡ hex_of b }
+fn hex(b: [u8; 16]) -> [u8; 32]
+    ensures { result ≡ hex_of b }
 {
-    for k in 0..32 {
-        out[k] = hex_digit(b[k / 2], k);
-    }
+    array::from_fn(|k| hex_digit(b[k / 2], k))
 }
 
 // The two lines: one for round 1 and its opened block, one for round r, a number of two digits, and
@@ -55,8 +51,8 @@ pub fn two_lines(first: [u8; 16], r: usize, last: [u8; 16]) -> Report
     text[36] = digit(r % 10);
     text[37] = b' ';
     text[70] = b'\n';
-    put_hex(last, &mut text[38..70]);
-    put_hex(first, &mut text[2..34]);
+    text[38..70].copy_from_slice(&hex(last));
+    text[2..34].copy_from_slice(&hex(first));
     Report {
         text,
         length: LONGEST,
@@ -64,6 +60,8 @@ pub fn two_lines(first: [u8; 16], r: usize, last: [u8; 16]) -> Report
 }
 
 // A number in decimal into the front of a part, and how many digits it has.
+// By hand: `write!` would need a fmt::Write over the array, and a contract for that, which is no plainer.
+#[tactic(auto, using(crate::proofs::TextLaws::decimal_some, crate::proofs::TextLaws::decimal_longer))]
 fn put_decimal(n: u32, out: &mut [u8]) -> usize
     requires { length (decimal n) ≤ length out.old }
     ensures { (result ≡ length (decimal n)) × (out.new ≡ decimal n ++ drop result out.old) }
@@ -78,18 +76,12 @@ fn put_decimal(n: u32, out: &mut [u8]) -> usize
 }
 
 // A refusal, by its number.
+#[tactic(auto, using(crate::proofs::TextLaws::decimal_ten))]
 pub fn refused(n: u32) -> Report
     ensures { report_told result ≡ shown (refused_text n) }
 {
     let mut text = [0u8; LONGEST];
-    text[0] = b'r';
-    text[1] = b'e';
-    text[2] = b'f';
-    text[3] = b'u';
-    text[4] = b's';
-    text[5] = b'e';
-    text[6] = b'd';
-    text[7] = b' ';
+    text[0..8].copy_from_slice(b"refused ");
     let end = 8 + put_decimal(n, &mut text[8..LONGEST]);
     text[end] = b'\n';
     Report {

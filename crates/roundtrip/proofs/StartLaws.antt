@@ -3,8 +3,7 @@
 use mathlib.Core.Path.{◌≡◌, refl, sym, ap, ◌∙◌}
 use mathlib.Core.Bool.{Bool}
 use mathlib.Core.List.{List, [], ◌++◌, append-nil}
-use Prim.Native.Nat.{ℕ, suc, ◌+◌, ◌-◌, ◌*◌, ◌≤◌}
-use native.Mathlib.Nat.{add-sub_cancel_left, sub-zero}
+use Prim.Native.Nat.{ℕ, suc, ◌+◌, ◌*◌, ◌≤◌}
 use native.Mathlib.Numerals.{add-one}
 use native.Mathlib.Omega.{arith}
 use borrow.Author.Tests.{ltb-false}
@@ -19,19 +18,16 @@ use Rattle.cipher.specs.Answers.{schedule_of, key_size}
 use Rattle.cipher.specs.Refusal.{number_of, outcome_of}
 use Rattle.cipher.specs.declared.size.KeySize.{KeySize}
 use Rattle.cipher.specs.declared.size.KeySize.TheVariants.{Bytes16}
-use Rattle.cipher.specs.declared.size.SizeFound.{SizeFound}
-use Rattle.cipher.specs.declared.size.SizeFound.TheVariants.{Found, Unknown}
+use Rattle.std.specs.Prelude.{Option, Result, Ok, Err}
+use Rattle.std.specs.Option.{ok_or}
 use Rattle.cipher.specs.declared.refusal.Refusal.{Refusal}
-use Rattle.cipher.specs.declared.refusal.Outcome.{Outcome}
-use Rattle.cipher.specs.declared.refusal.Outcome.TheVariants.{Done, Refused}
+use Rattle.cipher.specs.declared.refusal.Refusal.TheVariants.{KeyLength}
 use Rattle.cipher.proofs.AnswerLaws.{number_more}
 use Rattle.cipher.proofs.CheckLaws.{Numbered, told_refused}
 use Rattle.book.specs.Answers.{built_into, build_answer}
 use Rattle.claims.specs.Built.{Built, book_in, key_rounds, archive_set}
 use Rattle.roundtrip.specs.Roundtrips.{key_book, over, build_call_tests}
 use Rattle.roundtrip.specs.Steps.{start_told, start_answer}
-use Rattle.roundtrip.specs.declared.start.Started.{Started}
-use Rattle.roundtrip.specs.declared.start.Started.TheVariants as S
 use Rattle.claims.proofs.BuiltLaws.{not_refused, whole_length, built_named, built_chain}
 
 -- an answer of which the number is a refusal's: the same test decides whatever is answered
@@ -40,15 +36,6 @@ module _ {Y : Type 0} (number : Y → ℕ) (refuse : ℕ → Y) (e : (q : ℕ) �
   refused_alike other done ts q h =
       ap (λ (l : List (Bool × ℕ)). first l other done) (sym (append-nil ts))
       ∙ told_refused [] other done ts (number_of q) (number_more q) (sym (first_map number ts refuse go ∙ (λ i. first ts (λ q. e q i) (d i))) ∙ h)
-
--- the size that was found, and whether one was
-size_told : SizeFound → KeySize
-size_told (Found z) = z
-size_told Unknown = Bytes16
-
-is_told : SizeFound → ℕ
-is_told (Found z) = 1
-is_told Unknown = 0
 
 module _ (schedule : ℕ) (key ch bk : List ℕ) where
   pub build_numbered : Numbered (build_call_tests schedule key ch bk)
@@ -62,8 +49,8 @@ module _ (schedule : ℕ) (key ch bk : List ℕ) where
       (sym (whole_length (key_size key) (key_rows (schedule_of schedule) (key_size key) key) ch))
 
   -- building gave r, and held is what the buffer then holds
-  module _ (held : List ℕ) (r : Outcome) (e : (outcome_of r, held) ≡ build_answer schedule key ch bk) where
-    pub start_refused : (q : Refusal) → r ≡ Refused q → ((number_of q, Bytes16), held) ≡ start_answer schedule key ch bk
+  module _ (held : List ℕ) (r : Result (Unit {0}) Refusal) (e : (outcome_of r, held) ≡ build_answer schedule key ch bk) where
+    pub start_refused : (q : Refusal) → r ≡ Err q → ((number_of q, Bytes16), held) ≡ start_answer schedule key ch bk
     unfolding start_answer
     start_refused q d =
         ap (λ (y : ℕ × List ℕ). ((number_of q, Bytes16), y.1)) (e ∙ answer_is ∙ alike (λ q. (q, bk)) (0, over (key_book schedule key ch) bk))
@@ -74,27 +61,21 @@ module _ (schedule : ℕ) (key ch bk : List ℕ) where
             refused_alike (λ (y : ℕ × List ℕ). y.0) (λ q. (q, bk)) (λ q. refl) (0, over (key_book schedule key ch) bk) refl other done (build_call_tests schedule key ch bk) q
             (ap (λ (y : ℕ × List ℕ). y.0) (sym (e ∙ answer_is)) ∙ ap outcome_of d)
 
-    module _ (d : r ≡ Done) where
+    module _ {u : Unit {0}} (d : r ≡ Ok u) where
       built : Built schedule key ch bk held
-      built = sym e ∙ ap (λ (y : Outcome). (outcome_of y, held)) d
+      built = sym e ∙ ap (λ (y : Result (Unit {0}) Refusal). (outcome_of y, held)) d
 
-      pub size_known : size_of_key (length key) ≡ Unknown → ⊥
-      unfolding is_told
-      size_known u =
-          let w : ◌≡◌ {A = ℕ} 1 0 = ap is_told (sym (built_named schedule key ch bk held built).1 ∙ u) in
-          omega arith
-
-      pub start_done : (z : KeySize) → size_of_key (length key) ≡ Found z → ((0, z), held) ≡ start_answer schedule key ch bk
-      unfolding start_answer size_told
+      pub start_done : (z : Result KeySize Refusal) → z ≡ ok_or (size_of_key (length key)) KeyLength → (start_told z, held) ≡ start_answer schedule key ch bk
+      unfolding start_answer
       start_done z f =
           let t = not_refused (λ (y : ℕ × List ℕ). y.0) (λ q. (q, bk)) (λ q. refl) (0, over (key_book schedule key ch) bk) (build_call_tests schedule key ch bk) build_numbered
           (ap (λ (y : ℕ × List ℕ). y.0) (sym answer_is ∙ built)) in
-          let s : z ≡ key_size key = ap size_told (sym f ∙ (built_named schedule key ch bk held built).1) in
-          (λ i. ((0, s i), ((e ∙ answer_is ∙ t.1) i).1))
+          let s : z ≡ Ok (key_size key) = f ∙ ap (λ (o : Option KeySize). ok_or o KeyLength) (built_named schedule key ch bk held built).1 in
+          (λ i. (start_told (s i), ((e ∙ answer_is ∙ t.1) i).1))
           ∙ sym (first_clear (build_call_tests schedule key ch bk) (λ q. ((q, Bytes16), bk)) ((0, key_size key), over (key_book schedule key ch) bk) t.0)
 
   -- after it: r is what it gives and held what the buffer then holds
-  module _ (held : List ℕ) (r : Started) (e : (start_told r, held) ≡ start_answer schedule key ch bk) where
+  module _ (held : List ℕ) (r : Result KeySize Refusal) (e : (start_told r, held) ≡ start_answer schedule key ch bk) where
     answer : (ℕ × KeySize) × List ℕ
     answer = first (build_call_tests schedule key ch bk) (λ q. ((q, Bytes16), bk)) ((0, key_size key), over (key_book schedule key ch) bk)
 
@@ -105,7 +86,7 @@ module _ (schedule : ℕ) (key ch bk : List ℕ) where
     number_of_lem : (n : ℕ × KeySize) → start_told r ≡ n → answer.0.0 ≡ n.0
     number_of_lem n d = ap (λ (y : (ℕ × KeySize) × List ℕ). y.0.0) (sym told) ∙ ap (λ (y : ℕ × KeySize). y.0) d
 
-    pub way_refused : {A : Type 0} (refuse : List ℕ → ℕ → A) (go : A) (q : Refusal) → r ≡ S.Refused q → refuse held (number_of q) ≡ first (build_call_tests schedule key ch bk) (refuse bk) go
+    pub way_refused : {A : Type 0} (refuse : List ℕ → ℕ → A) (go : A) (q : Refusal) → r ≡ Err q → refuse held (number_of q) ≡ first (build_call_tests schedule key ch bk) (refuse bk) go
     unfolding answer
     way_refused refuse go q d =
         ap (λ (y : (ℕ × KeySize) × List ℕ). refuse y.1 (number_of q)) (told ∙ alike (λ q. ((q, Bytes16), bk)) ((0, key_size key), over (key_book schedule key ch) bk))
@@ -116,7 +97,7 @@ module _ (schedule : ℕ) (key ch bk : List ℕ) where
             refused_alike (λ (y : (ℕ × KeySize) × List ℕ). y.0.0) (λ q. ((q, Bytes16), bk)) (λ q. refl) ((0, key_size key), over (key_book schedule key ch) bk) refl
             other done (build_call_tests schedule key ch bk) q (number_of_lem (number_of q, Bytes16) (ap start_told d))
 
-    module _ (z : KeySize) (d : r ≡ S.Built z) where
+    module _ (z : KeySize) (d : r ≡ Ok z) where
       clear : Clear (build_call_tests schedule key ch bk) × (answer ≡ ((0, key_size key), over (key_book schedule key ch) bk))
       unfolding answer
       clear =
@@ -130,29 +111,25 @@ module _ (schedule : ℕ) (key ch bk : List ℕ) where
       held_is = ap (λ (y : (ℕ × KeySize) × List ℕ). y.1) (told ∙ clear.1)
 
       size_is : z ≡ key_size key
-      size_is = ap (λ (y : Started). (start_told y).1) (sym d) ∙ ap (λ (y : (ℕ × KeySize) × List ℕ). y.0.1) (told ∙ clear.1)
+      size_is = ap (λ (y : Result KeySize Refusal). (start_told y).1) (sym d) ∙ ap (λ (y : (ℕ × KeySize) × List ℕ). y.0.1) (told ∙ clear.1)
 
       pub way_built : Built schedule key ch bk held
       way_built = answer_is ∙ way_done (λ q. (q, bk)) (0, over (key_book schedule key ch) bk) ∙ ap (λ (x : List ℕ). (0, x)) (sym held_is)
 
-      -- what is cut out of chain and buffer, by q rounds and for a book of n bytes
-      module _ (q : ℕ) (k : q ≡ rounds z) where
-        pub sets_fit : 512 * (q + 1) + 512 ≤ length ch
-        sets_fit =
-            let w : q ≡ key_rounds key = k ∙ ap rounds size_is in
-            omega (arith, (built_chain schedule key ch bk held way_built).size)
+      -- what is cut out of chain and buffer
+      pub sets_fit : 512 * (rounds z + 1) + 512 ≤ length ch
+      sets_fit =
+          let w : rounds z ≡ key_rounds key = ap rounds size_is in
+          omega (arith, (built_chain schedule key ch bk held way_built).size)
 
-        pub cut_set : take (512 * (q + 1) + 512 - 512 * (q + 1)) (drop (512 * (q + 1)) ch) ≡ archive_set key ch
-        cut_set =
-            ap (λ (n : ℕ). take n (drop (512 * (q + 1)) ch)) (add-sub_cancel_left (512 * (q + 1)) 512)
-            ∙ ap (λ (n : ℕ). take 512 (drop (512 * n) ch)) (add-one q ∙ ap suc (k ∙ ap rounds size_is))
+      pub cut_set : take 512 (drop (512 * (rounds z + 1)) ch) ≡ archive_set key ch
+      cut_set = ap (λ (n : ℕ). take 512 (drop (512 * n) ch)) (add-one (rounds z) ∙ ap suc (ap rounds size_is))
 
-      module _ (n : ℕ) (k : n ≡ book_length z) where
-        pub book_fits : n ≤ length bk
-        unfolding chain_tests_by
-        book_fits =
-            let w : n ≡ book_length (key_size key) = k ∙ ap book_length size_is in
-            omega (arith, ltb-false (length bk) (book_length (key_size key)) clear.0.1.1.1.1.1.1.0)
+      pub book_fits : book_length z ≤ length bk
+      unfolding chain_tests_by
+      book_fits =
+          let w : book_length z ≡ book_length (key_size key) = ap book_length size_is in
+          omega (arith, ltb-false (length bk) (book_length (key_size key)) clear.0.1.1.1.1.1.1.0)
 
-        pub cut_book : take (n - 0) held ≡ book_in key held
-        cut_book = ap (λ (k : ℕ). take k held) (sub-zero n ∙ k ∙ ap book_length size_is)
+      pub cut_book : take (book_length z) held ≡ book_in key held
+      cut_book = ap (λ (k : ℕ). take k held) (ap book_length size_is)

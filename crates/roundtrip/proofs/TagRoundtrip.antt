@@ -23,14 +23,13 @@ use Rattle.cipher.proofs.AnswerLaws.{room_refused, room_taken}
 use Rattle.pad.specs.Padding.{padded_for_tag, kind_of}
 use Rattle.pad.specs.Answers.{tag_code_told, tag_answer}
 use Rattle.pad.specs.declared.code.TagCode.{TagCode}
-use Rattle.pad.specs.declared.code.TagCode.TheVariants as T
 use Rattle.pad.proofs.PadLaws.{tag_blocks}
 use Rattle.pad.proofs.TextLaws.{length_coded}
 use Rattle.pad.proofs.AnswerLaws.{tag_long, tag_short, tag_coded}
 use Rattle.driver.specs.Driver as D
 use Rattle.driver.specs.declared.session.Session.{Session}
-use Rattle.driver.specs.declared.session.SessionAnswer.{SessionAnswer}
-use Rattle.driver.specs.declared.session.TagAnswer.{TagAnswer}
+use Rattle.std.specs.Prelude.{Result, Ok, Err}
+use Rattle.std.specs.Result.{result_unwrap_or}
 use Rattle.archive.specs.Archive.{check_answer}
 use Rattle.claims.specs.Model.{Answer, accepted, tag}
 use Rattle.claims.specs.Calls.{answer_of, last_reply, driver_call, run, driver_answers, calls_of, message_calls, tags_of}
@@ -90,44 +89,54 @@ module _ (bk : List ℕ) (k : ℕ) where
       one_is (last_after bk c k n s).0.0 (last_after bk c k n s).0.1 t
       (sym (tags_calls n c s) ∙ ap (λ (j : ℕ). tags_of (run (driver_call bk) (calls_of k (cut j c)) s)) e ∙ h)
 
+-- a session that a call gives, or the one before it where the call is refused
+kept_session : (a : Result Session Refusal) (t : Session) → result_unwrap_or a t ≡ (D.session_told a t).1
+kept_session (Ok s) t = refl
+kept_session (Err q) t = refl
+
+pub begun : (bk : List ℕ) (b : Result Session Refusal) → D.session_told b D.spent ≡ D.begin_answer bk → result_unwrap_or b D.spent ≡ (D.begin_answer bk).1
+begun bk b e = kept_session b D.spent ∙ ap (λ (r : ℕ × Session). r.1) e
+
 -- ---- as the code makes them (the part `&c[a..a + 16]` is, as the borrow checker writes it, of length `a + 16 - a`)
 
 module _ (bk c : List ℕ) (n : ℕ) where
   part_block : take (16 * n + 16 - 16 * n) (drop (16 * n) c) ≡ block_of c n
   part_block = ap (λ (k : ℕ). take k (drop (16 * n) c)) (add-sub_cancel_left (16 * n) 16)
 
-  pub after_turn : (s t : Session) (a : SessionAnswer) → t ≡ after_blocks bk c n s
-      → D.session_told a ≡ D.block_answer bk (take (16 * n + 16 - 16 * n) (drop (16 * n) c)) t → a.session ≡ after_blocks bk c (n + 1) s
+  pub after_turn : (s t : Session) (b : List ℕ) (a : Result Session Refusal) → t ≡ after_blocks bk c n s → b ≡ block_of c n
+      → D.session_told a t ≡ D.block_answer bk b t → result_unwrap_or a t ≡ after_blocks bk c (n + 1) s
   unfolding after_blocks
-  after_turn s t a h e =
-      ap (λ (r : ℕ × Session). r.1) e
-      ∙ (λ i. (D.block_answer bk (part_block i) (h i)).1)
+  after_turn s t b a h eb e =
+      kept_session a t
+      ∙ ap (λ (r : ℕ × Session). r.1) e
+      ∙ (λ i. (D.block_answer bk (eb i) (h i)).1)
       ∙ ap (λ (j : ℕ). after_blocks bk c j s) (sym (add-one n))
 
-  last_made : (s : Session) (k : ℕ) (a : TagAnswer) → D.tag_told a ≡ D.last_answer bk (take (16 * n + 16 - 16 * n) (drop (16 * n) c)) k s
-      → a.answer.block ≡ (D.last_answer bk (block_of c n) k s).0.1
+  last_made : (s : Session) (k : ℕ) (a : Result (List ℕ × Session) Refusal) → D.tag_told a s ≡ D.last_answer bk (take (16 * n + 16 - 16 * n) (drop (16 * n) c)) k s
+      → (D.tag_told a s).0.1 ≡ (D.last_answer bk (block_of c n) k s).0.1
   last_made s k a e =
       ap (λ (r : (ℕ × List ℕ) × Session). r.0.1) e
       ∙ ap (λ (b : List ℕ). (D.last_answer bk b k s).0.1) part_block
 
-pub tag_made : (bk c : List ℕ) (k : ℕ) (b : SessionAnswer) (s : Session) (a : TagAnswer) → D.session_told b ≡ D.begin_answer bk
-    → s ≡ after_blocks bk c (length c / 16 - 1) b.session
-    → D.tag_told a ≡ D.last_answer bk (take (16 * (length c / 16 - 1) + 16 - 16 * (length c / 16 - 1)) (drop (16 * (length c / 16 - 1)) c)) k s
-    → a.answer.block ≡ tag_by bk c k
+pub tag_made : (bk c : List ℕ) (k : ℕ) (b s : Session) (a : Result (List ℕ × Session) Refusal) (t : List ℕ) → b ≡ (D.begin_answer bk).1
+    → s ≡ after_blocks bk c (length c / 16 - 1) b
+    → D.tag_told a s ≡ D.last_answer bk (take (16 * (length c / 16 - 1) + 16 - 16 * (length c / 16 - 1)) (drop (16 * (length c / 16 - 1)) c)) k s
+    → t ≡ (D.tag_told a s).0.1 → t ≡ tag_by bk c k
 unfolding tag_by
-tag_made bk c k b s a eb es ea =
+tag_made bk c k b s a t eb es ea et =
     let n = length c / 16 - 1 in
-    last_made bk c n s k a ea
+    et
+    ∙ last_made bk c n s k a ea
     ∙ ap (λ (t : Session). (D.last_answer bk (block_of c n) k t).0.1) es
-    ∙ ap (λ (r : ℕ × Session). (last_after bk c k n r.1).0.1) eb
+    ∙ ap (λ (r : Session). (last_after bk c k n r).0.1) eb
 
 -- ---- after the coding: r is what it gives and x what the buffer then holds
 
-module _ (u m co x : List ℕ) (r : TagCode) (e : (tag_code_told r, x) ≡ tag_answer u m co) where
-  pub tagging_room : (n k : ℕ) → r ≡ T.Coded n k → (n ≤ length co) × (16 ≤ n)
-  tagging_room n k d =
-      let t = code_room (0, 0) (length (padded_for_tag m), kind_of (length m)) u m (padded_for_tag m) co (tag_code_told r, x) e (ap (λ (y : TagCode). (tag_code_told y).0) d) in
-      let w : n ≡ length (padded_for_tag m) = ap (λ (y : TagCode). (tag_code_told y).1.0) (sym d) ∙ ap (λ (y : ℕ × ℕ). y.0) t.1 in
+module _ (u m co x : List ℕ) (r : Result TagCode Refusal) (e : (tag_code_told r, x) ≡ tag_answer u m co) where
+  pub tagging_room : (t : TagCode) → r ≡ Ok t → (t.length ≤ length co) × (16 ≤ t.length)
+  tagging_room c d =
+      let t = code_room (0, 0) (length (padded_for_tag m), kind_of (length m)) u m (padded_for_tag m) co (tag_code_told r, x) e (ap (λ (y : Result TagCode Refusal). (tag_code_told y).0) d) in
+      let w : c.length ≡ length (padded_for_tag m) = ap (λ (y : Result TagCode Refusal). (tag_code_told y).1.0) (sym d) ∙ ap (λ (y : ℕ × ℕ). y.0) t.1 in
       (omega (arith, t.0), omega (arith, tag_blocks m))
 
   module _ (schedule : ℕ) (key s bk : List ℕ) where
@@ -140,19 +149,19 @@ module _ (u m co x : List ℕ) (r : TagCode) (e : (tag_code_told r, x) ≡ tag_a
     number_is : (n : ℕ × (ℕ × ℕ)) → tag_code_told r ≡ n → (tag_answer u m co).0.0 ≡ n.0
     number_is n d = ap (λ (y : (ℕ × (ℕ × ℕ)) × List ℕ). y.0.0) (sym e) ∙ ap (λ (y : ℕ × (ℕ × ℕ)). y.0) d
 
-    pub tagged_refused : (q : Refusal) → r ≡ T.Refused q → ((number_of q, 0), x) ≡ coded_checked schedule key u s bk m co
+    pub tagged_refused : (q : Refusal) → r ≡ Err q → ((number_of q, 0), x) ≡ coded_checked schedule key u s bk m co
     unfolding coded_checked
     tagged_refused q d =
         ap (λ (y : (ℕ × (ℕ × ℕ)) × List ℕ). ((number_of q, 0), y.1)) e
         ∙ sym (next_refused (tag_answer u m co).0.0 kept (verdict (tag_answer u m co)) q (number_is (number_of q, (0, 0)) (ap tag_code_told d)))
 
-    pub tagged_done : (n k : ℕ) → r ≡ T.Coded n k → coded_checked schedule key u s bk m co ≡ (check_answer schedule key s m (tag_by bk (take (n - 0) x) k), x)
+    pub tagged_done : (t : TagCode) → r ≡ Ok t → coded_checked schedule key u s bk m co ≡ (check_answer schedule key s m (tag_by bk (take (t.length - 0) x) t.kind), x)
     unfolding coded_checked
-    tagged_done n k d =
-        next_done (tag_answer u m co).0.0 kept (verdict (tag_answer u m co)) (number_is (0, (n, k)) (ap tag_code_told d))
+    tagged_done t d =
+        next_done (tag_answer u m co).0.0 kept (verdict (tag_answer u m co)) (number_is (0, (t.length, t.kind)) (ap tag_code_told d))
         ∙ ap verdict (sym e)
-        ∙ ap (λ (y : TagCode). verdict (tag_code_told y, x)) d
-        ∙ ap (λ (j : ℕ). (check_answer schedule key s m (tag_by bk (take j x) k), x)) (sym (sub-zero n))
+        ∙ ap (λ (y : Result TagCode Refusal). verdict (tag_code_told y, x)) d
+        ∙ ap (λ (j : ℕ). (check_answer schedule key s m (tag_by bk (take j x) t.kind), x)) (sym (sub-zero t.length))
 
 -- ---- on a book that was built
 

@@ -1,10 +1,11 @@
 -- The steps of the two round trips, in the inner functions' own words: both begin with a book; after a call comes its refusal or the next
 -- call; the tag is made call by call.
-use Rattle.std.specs.Prelude.{List, ℕ, zero, suc, ◌-◌, ◌/◌, length, take}
+use Rattle.std.specs.Prelude.{List, ℕ, zero, suc, ◌-◌, ◌/◌, length, take, Result, Ok, Err}
 use Rattle.lists.specs.Blocks.{block_of, block_length}
 use Rattle.lists.specs.Refusals.{first}
 use Rattle.cipher.specs.Answers.{key_size}
 use Rattle.cipher.specs.Refusal.{number_of}
+use Rattle.cipher.specs.declared.refusal.Refusal.{Refusal}
 use Rattle.cipher.specs.declared.size.KeySize.{KeySize}
 use Rattle.cipher.specs.declared.size.KeySize.TheVariants.{Bytes16}
 use Rattle.pad.specs.Answers.{sealing_answer, tag_answer}
@@ -12,13 +13,11 @@ use Rattle.driver.specs.Driver.{seal_answer, begin_answer, block_answer, last_an
 use Rattle.driver.specs.declared.session.Session.{Session}
 use Rattle.archive.specs.Archive.{open_answer, check_answer}
 use Rattle.roundtrip.specs.Roundtrips.{key_book, over, build_call_tests}
-use Rattle.roundtrip.specs.declared.start.Started.{Started}
-use Rattle.roundtrip.specs.declared.start.Started.TheVariants as S
 
 -- the start of both: a book in the front of its buffer, and the size of the key; the size stands for nothing where there is none
-abbrev pub start_told : Started → ℕ × KeySize
-start_told (S.Built z) = (0, z)
-start_told (S.Refused q) = (number_of q, Bytes16)
+abbrev pub start_told : Result KeySize Refusal → ℕ × KeySize
+start_told (Ok z) = (0, z)
+start_told (Err q) = (number_of q, Bytes16)
 
 unfoldable pub start_answer : ℕ → List ℕ → List ℕ → List ℕ → (ℕ × KeySize) × List ℕ
 start_answer schedule key ch bk = first (build_call_tests schedule key ch bk) (λ q. ((q, Bytes16), bk)) ((0, key_size key), over (key_book schedule key ch) bk)

@@ -4,51 +4,39 @@ ghost use Rattle.cipher.specs.Refusal.{written_of};
 ghost use Rattle.roundtrip.specs.Steps.{sealed_opened, coded_opened};
 ghost use Rattle.roundtrip.specs.Roundtrips.{seal_roundtrip};
 
-use crate::start::{Started, start};
+use crate::start::{Parts, start};
 use archive::open::open;
-use cipher::lengths;
-use cipher::refusal::Written;
+use cipher::refusal::Refusal;
 use driver::seal::seal;
 use pad::code::code_for_sealing;
 
 // A coded message sealed by the book, and the sealed file opened.
 fn seal_open(
-    schedule: u8,
-    key: &[u8],
-    set: &[u8],
-    book: &[u8],
+    parts: &Parts,
     iv: &[u8],
     coded: &[u8],
     sealed: &mut [u8],
     out: &mut [u8],
-) -> Written
-    ensures { (written_of result, (sealed.new, out.new)) ≡ sealed_opened schedule key.now set.now book.now iv.now coded.now sealed.old out.old }
+) -> Result<usize, Refusal>
+    ensures { (written_of result, (sealed.new, out.new)) ≡ sealed_opened parts.now.schedule parts.now.key.now parts.now.set.now parts.now.book.now iv.now coded.now sealed.old out.old }
 {
-    match seal(book, iv, coded, sealed) {
-        Written::Refused(why) => Written::Refused(why),
-        Written::Bytes(n) => open(schedule, key, set, iv, &sealed[0..n], out),
-    }
+    let n = seal(parts.book, iv, coded, sealed)?;
+    open(parts.schedule, parts.key, parts.set, iv, &sealed[0..n], out)
 }
 
 // A message coded by the set u, sealed and opened.
 fn code_open(
-    schedule: u8,
-    key: &[u8],
-    u: &[u8],
-    set: &[u8],
-    book: &[u8],
+    parts: &Parts,
     iv: &[u8],
     message: &[u8],
     coded: &mut [u8],
     sealed: &mut [u8],
     out: &mut [u8],
-) -> Written
-    ensures { (written_of result, (coded.new, (sealed.new, out.new))) ≡ coded_opened schedule key.now u.now set.now book.now iv.now message.now coded.old sealed.old out.old }
+) -> Result<usize, Refusal>
+    ensures { (written_of result, (coded.new, (sealed.new, out.new))) ≡ coded_opened parts.now.schedule parts.now.key.now parts.now.u.now parts.now.set.now parts.now.book.now iv.now message.now coded.old sealed.old out.old }
 {
-    match code_for_sealing(u, message, coded) {
-        Written::Refused(why) => Written::Refused(why),
-        Written::Bytes(n) => seal_open(schedule, key, set, book, iv, &coded[0..n], sealed, out),
-    }
+    let n = code_for_sealing(parts.u, message, coded)?;
+    seal_open(parts, iv, &coded[0..n], sealed, out)
 }
 
 // The round trip of a sealed file: a book is built, the message coded, sealed and opened into the front of
@@ -64,27 +52,10 @@ pub fn seal_roundtrip(
     coded: &mut [u8],
     sealed: &mut [u8],
     out: &mut [u8],
-) -> Written
+) -> Result<usize, Refusal>
     ensures { (written_of result, (book.new, coded.new, sealed.new, out.new)) ≡ seal_roundtrip schedule key.now chain.now iv.now message.now book.old coded.old sealed.old out.old }
 {
-    match start(schedule, key, chain, book) {
-        Started::Refused(why) => Written::Refused(why),
-        Started::Built(size) => {
-            let u = &chain[0..lengths::SET];
-            let last = lengths::SET * (size.rounds() + 1);
-            let set = &chain[last..last + lengths::SET];
-            code_open(
-                schedule,
-                key,
-                u,
-                set,
-                &book[0..size.book_len()],
-                iv,
-                message,
-                coded,
-                sealed,
-                out,
-            )
-        }
-    }
+    let size = start(schedule, key, chain, book)?;
+    let parts = Parts::of(schedule, key, size, chain, &*book);
+    code_open(&parts, iv, message, coded, sealed, out)
 }

@@ -5,22 +5,23 @@ ghost use Rattle.archive.specs.Archive.{checked_told};
 ghost use Rattle.roundtrip.specs.Steps.{after_blocks, tag_by, coded_checked};
 ghost use Rattle.roundtrip.specs.Roundtrips.{tag_roundtrip};
 
-use crate::start::{Started, start};
-use archive::check::{Checked, check};
+use crate::start::{Parts, start};
+use archive::check::{Verdict, check};
 use cipher::lengths;
-use driver::session::{Session, begin, block_call, last_call};
-use pad::code::{TagCode, code_for_tag};
+use cipher::refusal::Refusal;
+use driver::session::{Session, begin, block_call, last_call, spent};
+use pad::code::code_for_tag;
 
-// The session after the block calls with the first n blocks of a text.
+// The session after the block calls with the first n blocks of a text: a call that is refused leaves
+// it as it was.
 fn call_blocks(s: Session, book: &[u8], coded: &[u8], n: usize) -> Session
     requires { block_length * n ≤ length coded.now }
     ensures { result ≡ after_blocks book.now coded.now n s }
 {
+    let (blocks, _) = coded.as_chunks::<{ lengths::BLOCK }>();
     let mut t = s;
-    for k in 0..n {
-        let at = lengths::BLOCK * k;
-        let a = block_call(t, book, &coded[at..at + lengths::BLOCK]);
-        let next = a.session;
+    for block in blocks[..n].iter() {
+        let next = block_call(t, book, block).unwrap_or(t);
         t = next;
     }
     t
@@ -33,35 +34,24 @@ fn tag_of(book: &[u8], coded: &[u8], kind: u8) -> [u8; 16]
     requires { block_length ≤ length coded.now }
     ensures { result ≡ tag_by book.now coded.now kind }
 {
-    let begun = begin(book);
-    let fresh = begun.session;
+    let fresh = begin(book).unwrap_or(spent());
     let n = coded.len() / lengths::BLOCK - 1;
     let s = call_blocks(fresh, book, coded, n);
     let at = lengths::BLOCK * n;
-    let a = last_call(s, book, &coded[at..at + lengths::BLOCK], kind);
-    let answer = a.answer;
-    answer.block
+    let Ok(last) = last_call(s, book, &coded[at..at + lengths::BLOCK], kind) else {
+        return [0u8; 16];
+    };
+    let tag = last.0;
+    tag
 }
 
 // A message coded by the set u, tagged and checked.
-fn code_check(
-    schedule: u8,
-    key: &[u8],
-    u: &[u8],
-    set: &[u8],
-    book: &[u8],
-    message: &[u8],
-    coded: &mut [u8],
-) -> Checked
-    ensures { (checked_told result, coded.new) ≡ coded_checked schedule key.now u.now set.now book.now message.now coded.old }
+fn code_check(parts: &Parts, message: &[u8], coded: &mut [u8]) -> Result<Verdict, Refusal>
+    ensures { (checked_told result, coded.new) ≡ coded_checked parts.now.schedule parts.now.key.now parts.now.u.now parts.now.set.now parts.now.book.now message.now coded.old }
 {
-    match code_for_tag(u, message, coded) {
-        TagCode::Refused(why) => Checked::Refused(why),
-        TagCode::Coded(n, kind) => {
-            let tag = tag_of(book, &coded[0..n], kind);
-            check(schedule, key, set, message, &tag)
-        }
-    }
+    let code = code_for_tag(parts.u, message, coded)?;
+    let tag = tag_of(parts.book, &coded[0..code.length], code.kind);
+    check(parts.schedule, parts.key, parts.set, message, &tag)
 }
 
 // The round trip of a tag: a book is built, the message coded, its blocks given to a session, and the tag
@@ -73,24 +63,10 @@ pub fn tag_roundtrip(
     message: &[u8],
     book: &mut [u8],
     coded: &mut [u8],
-) -> Checked
+) -> Result<Verdict, Refusal>
     ensures { (checked_told result, (book.new, coded.new)) ≡ tag_roundtrip schedule key.now chain.now message.now book.old coded.old }
 {
-    match start(schedule, key, chain, book) {
-        Started::Refused(why) => Checked::Refused(why),
-        Started::Built(size) => {
-            let u = &chain[0..lengths::SET];
-            let last = lengths::SET * (size.rounds() + 1);
-            let set = &chain[last..last + lengths::SET];
-            code_check(
-                schedule,
-                key,
-                u,
-                set,
-                &book[0..size.book_len()],
-                message,
-                coded,
-            )
-        }
-    }
+    let size = start(schedule, key, chain, book)?;
+    let parts = Parts::of(schedule, key, size, chain, &*book);
+    code_check(&parts, message, coded)
 }

@@ -1,6 +1,7 @@
 -- The seen word of a function's first values: which of its bits are clear, and how many are ones. There are as many ones as
 -- values exactly where each value is below the bound and none comes twice.
-use mathlib.Core.Path.{◌≡◌, refl, sym, ap, ◌∙◌}
+use mathlib.Core.Path.{◌≡◌, refl, sym, ap, ap₂, ◌∙◌}
+use mathlib.Core.List.{List, [], ◌∷◌}
 use mathlib.Core.Bool.{Bool, true, false, not, cond, ◌&&◌, and-true, and-false}
 use Prim.Native.Nat.{ℕ, zero, suc, ◌+◌, ◌*◌, ◌/◌, ◌%◌, ◌^◌, ◌≤◌, ◌<◌, zero-le}
 use native.Mathlib.Nat.{zero-div, mod-eq_of_lt}
@@ -11,7 +12,11 @@ use borrow.Author.Tests.{lt-ltb, le-ltb, ltb-true, ltb-false, eqb-true, eqb-fals
 use lib.Bits.{bit_or, or_zero_r}
 use lib.Count.{ones}
 use lib.Dec.{ltb, eqb, eqb-suc-suc}
+use lib.ListN.{length, get_or, take, drop, length-drop}
 use lib.Pow.{pow-add}
+use lib.Seq.{take-suc, get_or-drop}
+use Rattle.std.specs.List.{fold}
+use Rattle.std.proofs.lemmas.List.Sums.{fold-append}
 use Rattle.lists.specs.Every.{every}
 use Rattle.lists.proofs.EveryLaws.{true_and}
 use Rattle.seen.specs.SeenWord.{bit_of, seen_word}
@@ -33,7 +38,7 @@ halves x = go (dec_lt x 8) (dec_lt x 16)
         rw (ne_eqb (x / 8) 0 (λ z. omega arith), ne_eqb (x / 8) 1 (λ z. omega arith), le-ltb x 16 (omega arith))
 
 module _ (m : ℕ) (f : ℕ → ℕ) where
-  -- one value more, as a loop counts
+  -- one value more
   pub seen_more : (n : ℕ) → bit_or (seen_word n m f) (bit_of m (f n)) ≡ seen_word (n + 1) m f
   unfolding seen_word
   seen_more n = rw add-one
@@ -109,3 +114,21 @@ module _ (m : ℕ) (f : ℕ → ℕ) where
           short (bit_or w (2 ^ f n)) (omega (arith, ones_set w (f n)))
           (ap (λ (b : Bool). ltb (f n) m && b) (known e d) ∙ and-false (ltb (f n) m))
       go false e c d = short (bit_or w 0) (omega (arith, ap ones (or_zero_r w))) (rw e)
+
+-- the seen word of n numbers of a list, from a place on, as they are read one after another
+module _ (m : ℕ) (s : List ℕ) (at : ℕ) where
+  abbrev step : ℕ → ℕ → ℕ
+  step w x = bit_or w (bit_of m x)
+
+  read : (n : ℕ) → at + n ≤ length s → fold step 0 (take n (drop at s)) ≡ seen_word n m (λ v. get_or s (at + v) 0)
+  unfolding seen_word
+  read zero h = refl
+  read (suc n) h =
+      ap (fold step 0) (take-suc (drop at s) n 0 (omega (arith, length-drop at s)))
+      ∙ fold-append step 0 (take n (drop at s)) (get_or (drop at s) n 0 ∷ [])
+      ∙ ap₂ step (read n (omega arith)) (get_or-drop at s n 0)
+      ∙ seen_more m (λ v. get_or s (at + v) 0) n
+      ∙ rw add-one
+
+  pub seen_fold : (n k : ℕ) → k ≡ n → at + n ≤ length s → fold step 0 (take k (drop at s)) ≡ seen_word n m (λ v. get_or s (at + v) 0)
+  seen_fold n k e h = ap (λ (j : ℕ). fold step 0 (take j (drop at s))) e ∙ read n h

@@ -15,19 +15,15 @@ const ENTRIES: usize = 16;
 fn half_bit(x: u8, half: u8) -> u8
     ensures { result ≡ cond (eqb (x / 8) half) (2 ^ (x % 8)) 0 }
 {
-    if x / 8 == half {
-        return 1 << (x % 8);
-    }
-    0
+    if x / 8 == half { 1 << (x % 8) } else { 0 }
 }
 
 // The bit that entry x sets. One over 15 sets none, since it is in neither half.
+#[tactic(auto, using(crate::proofs::SeenLaws::halves))]
 fn bit_of(x: u8) -> u16
     ensures { result ≡ bit_of 16 x }
 {
-    let low = half_bit(x, 0) as u16;
-    let high = half_bit(x, 1) as u16;
-    low + 256 * high
+    u16::from_le_bytes([half_bit(x, 0), half_bit(x, 1)])
 }
 
 // The seen word of the coding that stands in s from `at` on.
@@ -35,11 +31,9 @@ fn seen_word(s: &[u8], at: usize) -> u16
     requires { at + 16 ≤ length s.now }
     ensures { result ≡ seen_word 16 16 (λ v. get_or s.now (at + v) 0) }
 {
-    let mut seen: u16 = 0;
-    for v in 0..ENTRIES {
-        seen = seen | bit_of(s[at + v]);
-    }
-    seen
+    s[at..at + ENTRIES]
+        .iter()
+        .fold(0, |seen, x| seen | bit_of(*x))
 }
 
 // Whether all 16 values are seen in it: whether the word's count of ones is 16.
@@ -47,5 +41,5 @@ pub fn all_seen(s: &[u8], at: usize) -> bool
     requires { at + 16 ≤ length s.now }
     ensures { result ≡ eqb (ones (seen_word 16 16 (λ v. get_or s.now (at + v) 0))) 16 }
 {
-    u16::count_ones(seen_word(s, at)) == 16
+    seen_word(s, at).count_ones() == 16
 }

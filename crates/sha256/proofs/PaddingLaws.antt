@@ -1,66 +1,69 @@
 -- The padding of a message of at most 55 bytes makes one block of it, and is three stores into a copy of the message.
-use Rattle.std.proofs.Common.{◌≡◌, ℕ, suc, ◌+◌, ◌-◌, ◌*◌, ◌/◌, ◌%◌, ◌≤◌, List, [], ◌∷◌, ◌++◌, length, set, replicate, sym, ap, ◌∙◌, ap₂, append_assoc, arith, length-append}
+use Rattle.std.proofs.Common.{◌≡◌, ℕ, suc, ◌+◌, ◌-◌, ◌*◌, ◌/◌, ◌%◌, ◌≤◌, List, [], ◌∷◌, ◌++◌, length, take, drop, set, replicate, refl, sym, ap, ◌∙◌, ap₂, append_assoc, arith, length-append}
+use Rattle.std.proofs.lemmas.List.{drop-replicate}
+use Rattle.std.specs.Int.{w64, to_be_bytes}
+use mathlib.Core.List.{append-nil}
 use lib.ListN.{length-replicate, replicate-append-replicate}
-use lib.Seq.{set_at, append_snoc}
+use lib.Seq.{set_at, take_at, drop_at}
 use Rattle.sha256.specs.Sha256.{big_endian, padded}
 
--- the length in bits of a message of n bytes
-length_bytes : (n : ℕ) → n ≤ 55 → big_endian 8 (8 * n) ≡ replicate 6 0 ++ (n / 32 ∷ n % 32 * 8 ∷ [])
+-- the eight bytes of a number, highest first, as the library has them
+eight_bytes : (x : ℕ) → to_be_bytes w64 x ≡ big_endian 8 x
 unfolding big_endian
-length_bytes n h =
-    let next : 8 * n / 256 % 256 ≡ n / 32 = omega arith in
-    let low : 8 * n % 256 ≡ n % 32 * 8 = omega arith in
-    let rest : 8 * n / 256 / 256 ≡ 0 = omega arith in
-    λ i.
-    rest i / 256 / 256 / 256 / 256 / 256 % 256
-    ∷ rest i / 256 / 256 / 256 / 256 % 256
-    ∷ rest i / 256 / 256 / 256 % 256
-    ∷ rest i / 256 / 256 % 256
-    ∷ rest i / 256 % 256
-    ∷ rest i % 256
-    ∷ next i
-    ∷ low i
-    ∷ []
+eight_bytes x =
+    let e2 : x / 65536 ≡ x / 256 / 256 = omega arith in
+    let e3 : x / 16777216 ≡ x / 256 / 256 / 256 = omega arith in
+    let e4 : x / 4294967296 ≡ x / 256 / 256 / 256 / 256 = omega arith in
+    let e5 : x / 1099511627776 ≡ x / 256 / 256 / 256 / 256 / 256 = omega arith in
+    let e6 : x / 281474976710656 ≡ x / 256 / 256 / 256 / 256 / 256 / 256 = omega arith in
+    let e7 : x / 72057594037927936 ≡ x / 256 / 256 / 256 / 256 / 256 / 256 / 256 = omega arith in
+    λ i. e7 i % 256 ∷ e6 i % 256 ∷ e5 i % 256 ∷ e4 i % 256 ∷ e3 i % 256 ∷ e2 i % 256 ∷ x / 256 % 256 ∷ x % 256 ∷ []
+
+length_eight : (x : ℕ) → length (big_endian 8 x) ≡ 8
+unfolding big_endian
+length_eight x = refl
+
+-- m put over the front of 64 zeros, as the borrow checker writes it
+pub put_in_zeros : (m q : List ℕ) → q ≡ m → q ++ drop (length m - 0) (replicate 64 0) ≡ m ++ replicate (64 - length m) 0
+put_in_zeros m q f =
+    let e : length m - 0 ≡ length m = omega arith in
+    ap₂ (λ (l : List ℕ) (k : ℕ). l ++ drop k (replicate 64 0)) f e ∙ ap (λ (l : List ℕ). m ++ l) (drop-replicate (length m) 64 0)
 
 module _ (m : List ℕ) (n : ℕ) (e : length m ≡ n) (h : n ≤ 55) where
-  -- all but the last two bytes of the block
+  -- all of the block but the message's length
   abbrev front : List ℕ
-  front = m ++ (0x80 ∷ replicate (61 - n) 0)
+  front = m ++ (0x80 ∷ replicate (55 - n) 0)
 
-  front_length : length front ≡ 62
-  front_length = length-append m _ ∙ omega (arith, length-replicate {A = ℕ} (61 - n) 0)
+  front_length : length front ≡ 56
+  front_length = length-append m _ ∙ omega (arith, length-replicate {A = ℕ} (55 - n) 0)
 
-  padded_is : padded m ≡ front ++ (n / 32 ∷ n % 32 * 8 ∷ [])
+  padded_is : padded m ≡ front ++ big_endian 8 (8 * n)
   unfolding padded
   padded_is =
-      let last : List ℕ = n / 32 ∷ n % 32 * 8 ∷ [] in
       let z : (64 + 55 - n % 64) % 64 ≡ 55 - n = omega arith in
-      let k : 55 - n + 6 ≡ 61 - n = omega arith in
       ap (λ (j : ℕ). m ++ (0x80 ∷ (replicate ((64 + 55 - j % 64) % 64) 0 ++ big_endian 8 (8 * j)))) e
-      ∙ ap₂ (λ (j : ℕ) (l : List ℕ). m ++ (0x80 ∷ (replicate j 0 ++ l))) z (length_bytes n h)
-      ∙ ap (λ (l : List ℕ). m ++ (0x80 ∷ l)) (sym (append_assoc (replicate (55 - n) 0) (replicate 6 0) last))
-      ∙ ap (λ (l : List ℕ). m ++ (0x80 ∷ (l ++ last))) (replicate-append-replicate (55 - n) 6 0 ∙ ap (λ (j : ℕ). replicate j 0) k)
-      ∙ sym (append_assoc m (0x80 ∷ replicate (61 - n) 0) last)
+      ∙ ap (λ (j : ℕ). m ++ (0x80 ∷ (replicate j 0 ++ big_endian 8 (8 * n)))) z
+      ∙ sym (append_assoc m (0x80 ∷ replicate (55 - n) 0) (big_endian 8 (8 * n)))
 
   pub padded_length : length (padded m) ≡ 64
-  padded_length = ap length padded_is ∙ length-append front _ ∙ rw front_length
+  padded_length = ap length padded_is ∙ length-append front _ ∙ rw (front_length, length_eight (8 * n))
 
   -- the one bit stored behind the message
-  opened : set (m ++ replicate (64 - n) 0) n 0x80 ≡ front ++ (0 ∷ 0 ∷ [])
+  opened : set (m ++ replicate (64 - n) 0) n 0x80 ≡ front ++ replicate 8 0
   opened =
-      let k : 64 - n ≡ suc (61 - n + 2) = omega arith in
+      let k : 64 - n ≡ suc (55 - n + 8) = omega arith in
       ap (λ (j : ℕ). set (m ++ replicate j 0) n 0x80) k
-      ∙ ap (λ (l : List ℕ). set (m ++ (0 ∷ l)) n 0x80) (sym (replicate-append-replicate (61 - n) 2 0))
-      ∙ set_at m 0 (replicate (61 - n) 0 ++ (0 ∷ 0 ∷ [])) 0x80 n e
-      ∙ sym (append_assoc m (0x80 ∷ replicate (61 - n) 0) (0 ∷ 0 ∷ []))
+      ∙ ap (λ (l : List ℕ). set (m ++ (0 ∷ l)) n 0x80) (sym (replicate-append-replicate (55 - n) 8 0))
+      ∙ set_at m 0 (replicate (55 - n) 0 ++ replicate 8 0) 0x80 n e
+      ∙ sym (append_assoc m (0x80 ∷ replicate (55 - n) 0) (replicate 8 0))
 
-  -- the last two bytes stored
-  ended : (a b : ℕ) → set (set (front ++ (0 ∷ 0 ∷ [])) 62 a) 63 b ≡ front ++ (a ∷ b ∷ [])
-  ended a b =
-      ap (λ (l : List ℕ). set l 63 b) (set_at front 0 (0 ∷ []) a 62 front_length ∙ sym (append_snoc front a (0 ∷ [])))
-      ∙ set_at (front ++ (a ∷ [])) 0 [] b 63 (length-append front (a ∷ []) ∙ rw front_length)
-      ∙ append_snoc front a (b ∷ [])
-
-  pub padded_stored : set (set (set (m ++ replicate (64 - n) 0) n 0x80) 62 (n / 32)) 63 (n % 32 * 8) ≡ padded m
-  padded_stored =
-      ap (λ (l : List ℕ). set (set l 62 (n / 32)) 63 (n % 32 * 8)) opened ∙ ended (n / 32) (n % 32 * 8) ∙ sym padded_is
+  -- and the length in bits put over the last eight bytes, as the borrow checker writes it
+  pub padded_stored : (p q : List ℕ) → p ≡ m ++ replicate (64 - n) 0 → q ≡ to_be_bytes w64 (8 * n)
+      → take 56 (set p n 0x80) ++ (q ++ drop 8 (drop 56 (set p n 0x80))) ≡ padded m
+  padded_stored p q ep eq =
+      let put : List ℕ → List ℕ → List ℕ = λ l b. take 56 l ++ (b ++ drop 8 (drop 56 l)) in
+      let long : List ℕ = big_endian 8 (8 * n) in
+      ap₂ put (ap (λ (l : List ℕ). set l n 0x80) ep ∙ opened) (eq ∙ eight_bytes (8 * n))
+      ∙ ap₂ {C = List ℕ} (λ (a b : List ℕ). a ++ (long ++ drop 8 b)) (take_at front (replicate 8 0) 56 front_length) (drop_at front (replicate 8 0) 56 front_length)
+      ∙ ap (λ (l : List ℕ). front ++ l) (append-nil long)
+      ∙ sym padded_is

@@ -4,10 +4,9 @@ ghost use Rattle.sha256.specs.Sha256 as S;
 
 use crate::block::block_words;
 use crate::function::{schedule_word, temp1, temp2};
-use std::num::wrapping_add_u32;
 
 // K.
-const CONSTANTS: [u32; 64] = [
+static CONSTANTS: [u32; 64] = [
     0x428a2f98, 0x71374491, 0xb5c0fbcf, 0xe9b5dba5, 0x3956c25b, 0x59f111f1, 0x923f82a4, 0xab1c5ed5,
     0xd807aa98, 0x12835b01, 0x243185be, 0x550c7dc3, 0x72be5d74, 0x80deb1fe, 0x9bdc06a7, 0xc19bf174,
     0xe49b69c1, 0xefbe4786, 0x0fc19dc6, 0x240ca1cc, 0x2de92c6f, 0x4a7484aa, 0x5cb0a9dc, 0x76f988da,
@@ -28,6 +27,7 @@ fn message_schedule(m: [u32; 64]) -> [u32; 64]
     ensures { result ≡ S.message_schedule 48 (take 16 m) }
 {
     let mut w = m;
+    // By index: each word is made of four before it in the same array.
     for n in 0..48 {
         w[n + 16] = schedule_word(w[n + 14], w[n + 9], w[n + 1], w[n]);
     }
@@ -35,36 +35,36 @@ fn message_schedule(m: [u32; 64]) -> [u32; 64]
 }
 
 // One round.
+#[tactic(auto, unfolding(crate::specs::Sha256::round, crate::specs::Sha256::moved, words::specs::Word::add))]
 fn round(k: u32, w: u32, s: [u32; 8]) -> [u32; 8]
     ensures { result ≡ S.round k w s }
 {
     let t = temp1(s[4], s[5], s[6], s[7], k, w);
     let u = temp2(s[0], s[1], s[2]);
     [
-        wrapping_add_u32(t, u),
+        t.wrapping_add(u),
         s[0],
         s[1],
         s[2],
-        wrapping_add_u32(s[3], t),
+        s[3].wrapping_add(t),
         s[4],
         s[5],
         s[6],
     ]
 }
 
-// All rounds, four in a turn, which is quicker than one (docs/SPEED.md). The constants are copied once: indexed
-// in the loop they would be laid out in each turn.
+// All rounds. Four in a turn: one in a turn, by `for` over the constants, was tried, and takes 1.18 of the
+// time (docs/SPEED.md).
 fn rounds(w: [u32; 64], h: [u32; 8]) -> [u32; 8]
     ensures { result ≡ S.rounds w 64 h }
 {
-    let k = CONSTANTS;
     let mut s = h;
     for q in 0..16 {
         let i = 4 * q;
-        let a = round(k[i], w[i], s);
-        let b = round(k[i + 1], w[i + 1], a);
-        let c = round(k[i + 2], w[i + 2], b);
-        let d = round(k[i + 3], w[i + 3], c);
+        let a = round(CONSTANTS[i], w[i], s);
+        let b = round(CONSTANTS[i + 1], w[i + 1], a);
+        let c = round(CONSTANTS[i + 2], w[i + 2], b);
+        let d = round(CONSTANTS[i + 3], w[i + 3], c);
         s = d;
     }
     s
@@ -74,19 +74,11 @@ fn rounds(w: [u32; 64], h: [u32; 8]) -> [u32; 8]
 fn sums(h: [u32; 8], s: [u32; 8]) -> [u32; 8]
     ensures { result ≡ S.sums h s }
 {
-    [
-        wrapping_add_u32(h[0], s[0]),
-        wrapping_add_u32(h[1], s[1]),
-        wrapping_add_u32(h[2], s[2]),
-        wrapping_add_u32(h[3], s[3]),
-        wrapping_add_u32(h[4], s[4]),
-        wrapping_add_u32(h[5], s[5]),
-        wrapping_add_u32(h[6], s[6]),
-        wrapping_add_u32(h[7], s[7]),
-    ]
+    std::array::from_fn(|k| h[k].wrapping_add(s[k]))
 }
 
 // The hash value of a message of one block.
+#[tactic(auto, using(crate::proofs::HashLaws::hash_parts))]
 pub fn hash(m: &[u8]) -> [u32; 8]
     requires { length m.now ≤ 55 }
     ensures { result ≡ S.hash m.now }

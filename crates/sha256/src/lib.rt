@@ -17,9 +17,5 @@ pub fn digest(m: &[u8]) -> [u8; 32]
     ensures { result ≡ S.sha256 m.now }
 {
     let h = hash(m);
-    let mut d = [0u8; 32];
-    for i in 0..32 {
-        d[i] = ((h[i / 4] >> (24 - 8 * (i % 4))) % 256) as u8;
-    }
-    d
+    std::array::from_fn(|i| h[i / 4].to_be_bytes()[i % 4])
 }

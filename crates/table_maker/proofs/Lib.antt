@@ -1,2 +1,4 @@
+pub mod ChainLaws
+pub mod InvertedLaws
 pub mod RowLaws
 pub mod MadeLaws

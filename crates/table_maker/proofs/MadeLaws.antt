@@ -14,9 +14,9 @@ use Rattle.lists.specs.HalfBytes.{half_byte}
 use Rattle.lists.proofs.TabulationLaws.{length_tab, get_or_tab}
 use Rattle.cipher.specs.Coding.{block_half}
 use Rattle.cipher.specs.Tables.{upper, lower}
-use Rattle.cipher.specs.Chain.{mask_into, mask_out_of}
+use Rattle.cipher.specs.Chain.{mask_into}
 use Rattle.table_maker.specs.Rows.{table_by, TableFits}
-use Rattle.table_maker.specs.Made.{keyed_by, summands, sum_entries, made_add, upper_part, lower_part, upper_parts, lower_parts, turned_rows, made_turn, made_fold}
+use Rattle.table_maker.specs.Made.{keyed_by, summands, sum_entries, made_add, upper_part, lower_part, upper_parts, lower_parts, turned_rows, turned_by, made_fold}
 use Rattle.table_maker.proofs.RowLaws.{length_table}
 
 -- ---- lengths
@@ -25,9 +25,9 @@ pub length_add : (s R k : List ℕ) (p : ℕ) → length (made_add s R k p) ≡ 
 unfolding made_add
 length_add s R k p = length_table ◌+◌ _ _ _ ∙ ap (λ (n : ℕ). n * 16) (length_tab 32 _)
 
-pub length_turn : (s S : List ℕ) (p : ℕ) → length (made_turn s S p) ≡ 256
-unfolding made_turn
-length_turn s S p = length_table ◌+◌ _ _ _ ∙ ap (λ (n : ℕ). n * 16) (length_tab 16 _)
+pub length_turned : (above below : ℕ → ℕ → ℕ) (sum : ℕ → ℕ) (s S : List ℕ) (p : ℕ) → length (turned_by above below sum s S p) ≡ 256
+unfolding turned_by
+length_turned above below sum s S p = length_table ◌+◌ _ _ _ ∙ ap (λ (n : ℕ). n * 16) (length_tab 16 _)
 
 pub length_fold : (s u S k : List ℕ) (p : ℕ) → length (made_fold s u S k p) ≡ 256
 unfolding made_fold
@@ -35,84 +35,34 @@ length_fold s u S k p = length_table bit_xor _ _ _ ∙ ap (λ (n : ℕ). n * 16)
 
 -- ---- turned half bytes
 
-pub upper_one : (i u : ℕ) → i ≡ 1 → 8 * u % 16 ≡ upper_part i u
-upper_one i u e = rw e
-
-pub upper_other : (i u : ℕ) → (i ≡ 1 → ⊥) → 2 * u % 16 ≡ upper_part i u
-upper_other zero u h = refl
-upper_other (suc zero) u h = absurd (h refl)
-upper_other (suc (suc i)) u h = refl
-
-pub lower_one : (i v : ℕ) → i ≡ 1 → v / 2 ≡ lower_part i v
-lower_one i v e = rw e
-
-pub lower_other : (i v : ℕ) → (i ≡ 1 → ⊥) → v / 8 ≡ lower_part i v
-lower_other zero v h = refl
-lower_other (suc zero) v h = absurd (h refl)
-lower_other (suc (suc i)) v h = refl
-
 pub parts_lt : (i u v : ℕ) → v < 16 → upper_part i u + lower_part i v < 16
 parts_lt zero u v h = omega arith
 parts_lt (suc zero) u v h = omega arith
 parts_lt (suc (suc i)) u v h = omega arith
 
--- where the two half bytes of a sum stand
-pub upper_is : (i j : ℕ) → i < 3 → (j + get_or (6 ∷ 2 ∷ 1 ∷ []) i 0) % 8 ≡ upper i j
-upper_is zero j h = refl
-upper_is (suc zero) j h = refl
-upper_is (suc (suc zero)) j h = refl
-upper_is (suc (suc (suc i))) j h = absurd (not-suc-le-zero (le_of_suc-le-suc (le_of_suc-le-suc (le_of_suc-le-suc h))))
+-- the constants of the turns: how far above half byte j the two half bytes of a sum lie
+no_fourth : {A : Type 0} (i : ℕ) → suc (suc (suc i)) < 3 → A
+no_fourth i h = absurd (not-suc-le-zero (le_of_suc-le-suc (le_of_suc-le-suc (le_of_suc-le-suc h))))
 
-pub lower_is : (i j : ℕ) → i < 3 → j < 8 → (j + get_or (5 ∷ 1 ∷ 0 ∷ []) i 0) % 8 ≡ lower i j
-lower_is zero j h k = refl
-lower_is (suc zero) j h k = refl
-lower_is (suc (suc zero)) j h k = omega arith
-lower_is (suc (suc (suc i))) j h k = absurd (not-suc-le-zero (le_of_suc-le-suc (le_of_suc-le-suc (le_of_suc-le-suc h))))
+pub upper_is : (i j : ℕ) → i < 3 → (get_or (6 ∷ 2 ∷ 1 ∷ []) i 0 < 8) × ((j + get_or (6 ∷ 2 ∷ 1 ∷ []) i 0) % 8 ≡ upper i j)
+upper_is zero j h = (lit< tt, refl)
+upper_is (suc zero) j h = (lit< tt, refl)
+upper_is (suc (suc zero)) j h = (lit< tt, refl)
+upper_is (suc (suc (suc i))) j h = no_fourth i h
 
--- the half of a byte that is half byte p of its block
-pub low_half : (b p : ℕ) → p % 2 ≡ 0 → b % 16 ≡ half_byte b (p % 2)
-unfolding half_byte
-low_half b p e = rw e
+pub lower_is : (i j : ℕ) → i < 3 → j < 8 → (get_or (5 ∷ 1 ∷ 0 ∷ []) i 0 < 8) × ((j + get_or (5 ∷ 1 ∷ 0 ∷ []) i 0) % 8 ≡ lower i j)
+lower_is zero j h k = (lit< tt, refl)
+lower_is (suc zero) j h k = (lit< tt, refl)
+lower_is (suc (suc zero)) j h k = (lit< tt, omega arith)
+lower_is (suc (suc (suc i))) j h k = no_fourth i h
 
-pub high_half : (b p : ℕ) → (p % 2 ≡ 0 → ⊥) → b / 16 % 16 ≡ half_byte b (p % 2)
-unfolding half_byte
-high_half b p h =
-    let e : p % 2 ≡ 1 = omega arith in
-    rw e
-
+-- half byte p of a block, in its byte
 pub block_half_is : (k : List ℕ) (p : ℕ) → half_byte (get_or k (p / 2) 0) (p % 2) ≡ block_half k (p / 8) (p % 8)
 unfolding block_half
 block_half_is k p =
     let e : p / 2 ≡ 4 * (p / 8) + p % 8 / 2 = omega arith in
     let d : p % 2 ≡ p % 8 % 2 = omega arith in
     ap₂ (λ (x y : ℕ). half_byte (get_or k x 0) y) e d
-
-pub upper_low : (i : ℕ) → get_or (6 ∷ 2 ∷ 1 ∷ []) i 0 < 8
-upper_low zero = lit< tt
-upper_low (suc zero) = lit< tt
-upper_low (suc (suc zero)) = lit< tt
-upper_low (suc (suc (suc i))) = lit< tt
-
-pub lower_low : (i : ℕ) → get_or (5 ∷ 1 ∷ 0 ∷ []) i 0 < 8
-lower_low zero = lit< tt
-lower_low (suc zero) = lit< tt
-lower_low (suc (suc zero)) = lit< tt
-lower_low (suc (suc (suc i))) = lit< tt
-
--- ---- masks, by the place p = 8i + j
-
-pub mask_none : (R : List ℕ) (p : ℕ) → p % 8 ≡ 0 → 0 ≡ mask_into R (p / 8) (p % 8)
-mask_none R p e = rw e
-
-pub mask_there : (R : List ℕ) (p : ℕ) → (p % 8 ≡ 0 → ⊥) → get_or R (384 + p) 0 ≡ mask_into R (p / 8) (p % 8)
-mask_there R p h = go (p % 8) refl
-  where
-    go : (j : ℕ) → p % 8 ≡ j → get_or R (384 + p) 0 ≡ mask_into R (p / 8) j
-    go zero e = absurd (h e)
-    go (suc j) e = ap (λ (k : ℕ). get_or R (384 + k) 0) (omega arith)
-
-pub mask_after : (R : List ℕ) (p q : ℕ) → q ≡ 8 * (p / 8) + (p + 1) % 8 → get_or R (384 + q) 0 ≡ mask_out_of R (p / 8) (p % 8)
-mask_after R p q e = ap (λ (k : ℕ). get_or R (384 + k) 0) (omega arith)
 
 -- ---- a table from its prepared parts a, b and e: the look-ups stay inside e, and it is the table that is named
 
@@ -163,11 +113,11 @@ module _ (s a b e : List ℕ) (n i at at' : ℕ) (ea : a ≡ tab 16 (upper_parts
           let u = parts_lt i (get_or s (at + x) 0) (get_or s (at' + q) 0) (h (at' + q)) in
           omega (arith, p, r, u)
 
--- x and y are the places of the two half bytes
-pub turn_made : (s S e : List ℕ) (p x y : ℕ) → e ≡ drop (16 * p) S → x ≡ 16 * (8 * (p / 8) + upper (p / 8) (p % 8))
-    → y ≡ 16 * (8 * (p / 8) + lower (p / 8) (p % 8)) → turned_rows s x y (p / 8) e ≡ made_turn s S p
-unfolding made_turn
-turn_made s S e p x y ee ex ey = rw (ee, ex, ey)
+-- x and y are the two half bytes, z the sum as whose they are cut
+pub turned_made : (above below : ℕ → ℕ → ℕ) (sum : ℕ → ℕ) (s S e : List ℕ) (p x y z : ℕ) → e ≡ drop (16 * p) S → x ≡ above (p / 8) (p % 8)
+    → y ≡ below (p / 8) (p % 8) → z ≡ sum (p / 8) → turned_rows s (16 * (8 * (p / 8) + x)) (16 * (8 * (p / 8) + y)) z e ≡ turned_by above below sum s S p
+unfolding turned_by
+turned_made above below sum s S e p x y z ee ex ey ez = rw (ee, ex, ey, ez)
 
 module _ (s u S a b e : List ℕ) (n k at : ℕ) (ea : a ≡ tab 16 (keyed_by s at k)) (eb : b ≡ drop at u) (ee : e ≡ drop at S)
     (h : Below 16 s) (hu : Below 16 u) (hk : k < 16) (near : at + 16 ≤ length u) (far : at + 16 ≤ length S) (room : n ≡ 256) where

@@ -81,11 +81,20 @@ lower_parts s at i q = lower_part i (get_or s (at + q) 0)
 abbrev pub turned_rows : List ℕ → ℕ → ℕ → ℕ → List ℕ → List ℕ
 turned_rows s at at' i e = table_by ◌+◌ e (tab 16 (upper_parts s at i)) (tab 16 (lower_parts s at' i))
 
--- s has the middle codings inverted, and S begins with the set after the round
-unfoldable pub made_turn : List ℕ → List ℕ → ℕ → List ℕ
-made_turn s S p =
-    turned_rows s (coding_length * (8 * (p / 8) + upper (p / 8) (p % 8))) (coding_length * (8 * (p / 8) + lower (p / 8) (p % 8))) (p / 8)
+-- turn table p of a round: of word i and half byte j, which half bytes of the word make the turned one, the upper and the lower, and
+-- as those of which sum they are cut; s has the codings of the words inverted, and S begins with those of the turned words
+unfoldable pub turned_by : (ℕ → ℕ → ℕ) → (ℕ → ℕ → ℕ) → (ℕ → ℕ) → List ℕ → List ℕ → ℕ → List ℕ
+turned_by above below sum s S p =
+    turned_rows s (coding_length * (8 * (p / 8) + above (p / 8) (p % 8))) (coding_length * (8 * (p / 8) + below (p / 8) (p % 8))) (sum (p / 8))
     (drop (coding_length * p) S)
+
+-- the word is that of the sum
+abbrev pub itself : ℕ → ℕ
+itself i = i
+
+-- s has the middle codings inverted, and S begins with the set after the round
+abbrev pub made_turn : List ℕ → List ℕ → ℕ → List ℕ
+made_turn = turned_by upper lower itself
 
 -- ---- fold tables: s and u have the sets that are folded from inverted, and S begins with the set that is folded to
 

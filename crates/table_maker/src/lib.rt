@@ -5,5 +5,7 @@
 
 pub mod adds;
 pub mod folds;
+pub mod inverted;
+pub mod rounds;
 pub mod rows;
 pub mod turns;

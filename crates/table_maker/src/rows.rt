@@ -1,56 +1,64 @@
 // Tables as rows of sixteen entries. What an entry needs of its row's operand and of its own is
 // worked out beforehand, so that an entry is one sum or one xor, one look-up and one store.
-ghost use Rattle.std.specs.Prelude.{◌≡◌, ◌+◌, ◌*◌, ◌≤◌, length};
+ghost use Rattle.std.specs.Prelude.{◌≡◌, ℕ, ◌+◌, ◌*◌, ◌<◌, ◌≤◌, length};
 ghost use Rattle.std.specs.Int.Bits.{bit_xor};
 ghost use Rattle.table_maker.specs.Rows.{row_by, table_by, RowFits, TableFits};
 
 use cipher::invert::wide;
 use cipher::lengths;
+use parts::in_parts;
 
-// A row of a table that is read at sums: s is the row's summand, b has those of its entries.
-fn sum_row(e: &[u8], s: u8, b: &[u8], out: &mut [u8])
-    requires { (16 ≤ length b.now) × (length out.old ≡ 16) × RowFits ◌+◌ e.now s b.now }
-    ensures { out.new ≡ row_by ◌+◌ e.now s b.now }
+// Where an entry is looked up: what an operation makes of its row's operand and its own.
+pub trait Operation {
+    ghost op: { ℕ → ℕ → ℕ };
+
+    fn of(s: usize, b: usize) -> usize
+        requires { (s < 256) × (b < 256) }
+        ensures { result ≡ op s b };
+}
+
+// A table that is read at sums.
+pub struct Sum;
+
+impl Operation for Sum {
+    ghost op = { ◌+◌ };
+
+    fn of(s: usize, b: usize) -> usize {
+        s + b
+    }
+}
+
+// A table that is read at xors.
+pub struct Xor;
+
+impl Operation for Xor {
+    ghost op = { bit_xor };
+
+    fn of(s: usize, b: usize) -> usize {
+        s ^ b
+    }
+}
+
+// A row: s is the row's operand, b has those of its entries.
+fn row<O: Operation>(e: &[u8], s: u8, b: &[u8], out: &mut [u8])
+    requires { (16 ≤ length b.now) × (length out.old ≡ 16) × RowFits O.op e.now s b.now }
+    ensures { out.new ≡ row_by O.op e.now s b.now }
 {
     let at = wide(s);
-    for q in 0..lengths::VALUES {
-        out[q] = e[at + wide(b[q])];
+    for (q, entry) in out.iter_mut().enumerate() {
+        *entry = e[O::of(at, wide(b[q]))];
     }
 }
 
-// The table of the rows whose summands a has.
-pub fn sum_table(e: &[u8], a: &[u8], b: &[u8], out: &mut [u8])
-    requires { (16 ≤ length b.now) × (length out.old ≡ length a.now * 16) × TableFits ◌+◌ e.now a.now b.now }
-    ensures { out.new ≡ table_by ◌+◌ e.now a.now b.now }
+// The table of the rows whose operands a has.
+pub fn table<O: Operation>(e: &[u8], a: &[u8], b: &[u8], out: &mut [u8])
+    requires { (16 ≤ length b.now) × (length out.old ≡ length a.now * 16) × TableFits O.op e.now a.now b.now }
+    ensures { out.new ≡ table_by O.op e.now a.now b.now }
 {
-    let mut at: usize = 0;
-    for x in 0..a.len() {
-        let to = at + lengths::VALUES;
-        sum_row(e, a[x], b, &mut out[at..to]);
-        at = to;
-    }
-}
-
-// A row of a table that is read at xors.
-fn xor_row(e: &[u8], s: u8, b: &[u8], out: &mut [u8])
-    requires { (16 ≤ length b.now) × (length out.old ≡ 16) × RowFits bit_xor e.now s b.now }
-    ensures { out.new ≡ row_by bit_xor e.now s b.now }
-{
-    let at = wide(s);
-    for q in 0..lengths::VALUES {
-        out[q] = e[at ^ wide(b[q])];
-    }
-}
-
-// The table of such rows.
-pub fn xor_table(e: &[u8], a: &[u8], b: &[u8], out: &mut [u8])
-    requires { (16 ≤ length b.now) × (length out.old ≡ length a.now * 16) × TableFits bit_xor e.now a.now b.now }
-    ensures { out.new ≡ table_by bit_xor e.now a.now b.now }
-{
-    let mut at: usize = 0;
-    for x in 0..a.len() {
-        let to = at + lengths::VALUES;
-        xor_row(e, a[x], b, &mut out[at..to]);
-        at = to;
-    }
+    in_parts(
+        out,
+        lengths::VALUES,
+        a.len(),
+        |x, part| row::<O>(e, a[x], b, part),
+    );
 }

@@ -1,4 +1,4 @@
--- A fold made byte by byte, and a slice from a place on.
+-- A fold made byte by byte.
 use mathlib.Core.Path.{◌≡◌}
 use mathlib.Core.List.{List}
 use Prim.Native.Nat.{ℕ, ◌+◌, ◌*◌, ◌/◌, ◌%◌}

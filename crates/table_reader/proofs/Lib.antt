@@ -5,3 +5,5 @@ pub mod TurnLaws
 pub mod FoldLaws
 pub mod Typed
 pub mod RoundLaws
+pub mod FrontLaws
+pub mod ChunkLaws

@@ -42,7 +42,7 @@ module _ (t : List ℕ) (base : ℕ) (T : ℕ → ℕ → ℕ) (p q c : ℕ → 
 
 -- ---- the sums of a round
 
-carry_lt : (t b : List ℕ) (i j : ℕ) → carry_at t b i j < 2
+pub carry_lt : (t b : List ℕ) (i j : ℕ) → carry_at t b i j < 2
 unfolding carry_at
 carry_lt t b i zero = omega arith
 carry_lt t b i (suc j) = omega arith

@@ -1,9 +1,12 @@
 // Entries of the tables of a round, and what is read of them: a half byte and, of an add entry, a
 // carry.
-ghost use Rattle.std.specs.Prelude.{◌≡◌, ◌+◌, ◌*◌, ◌/◌, ◌%◌, ◌≤◌, ◌<◌, length, get_or};
-ghost use Rattle.cipher.specs.Lengths.{adds_length, round_length, add_length, turn_length};
+ghost use Rattle.std.specs.Prelude.{◌≡◌, ◌+◌, ◌*◌, ◌/◌, ◌%◌, ◌<◌, ◌≤◌, length, get_or};
+ghost use Rattle.cipher.specs.Lengths.{adds_length, add_length, turn_length};
 
 use cipher::lengths;
+
+// The tables of a round of a book, or of a reading book.
+pub type RoundTables = [u8; lengths::ROUND_TABLES];
 
 // The low half of a byte.
 pub fn low(x: u8) -> usize
@@ -33,17 +36,17 @@ pub fn joined(lo: u8, hi: u8) -> u8
     lo % 16 + 16 * (hi % 16)
 }
 
-// An entry of add table k of those in t.
+// An entry of table k of 512 bytes in t: of an add table, or of a subtract table of a reading round.
 pub fn add_at(t: &[u8], k: usize, c: usize, p: usize, q: usize) -> u8
-    requires { (k < 24) × (c < 2) × (p < 16) × (q < 16) × (adds_length ≤ length t.now) }
+    requires { (c < 2) × (p < 16) × (q < 16) × (add_length * k + add_length ≤ length t.now) }
     ensures { result ≡ get_or t.now (add_length * k + (256 * c + 16 * p + q)) 0 }
 {
     t[lengths::ADD * k + (256 * c + 16 * p + q)]
 }
 
-// An entry of turn table k.
-pub fn turn_at(t: &[u8], k: usize, p: usize, q: usize) -> u8
-    requires { (k < 24) × (p < 16) × (q < 16) × (round_length ≤ length t.now) }
+// An entry of turn table k of those in t.
+pub fn turn_at(t: &RoundTables, k: usize, p: usize, q: usize) -> u8
+    requires { (k < 24) × (p < 16) × (q < 16) }
     ensures { result ≡ get_or t.now (adds_length + turn_length * k + (16 * p + q)) 0 }
 {
     t[lengths::TURNS + lengths::TURN * k + (16 * p + q)]

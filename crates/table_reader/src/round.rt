@@ -5,13 +5,14 @@ ghost use Rattle.lists.specs.Blocks.{Block};
 ghost use Rattle.cipher.specs.Tables.{table_round, table_rounds};
 ghost use Rattle.cipher.specs.Book.{round_at};
 
+use crate::entry::RoundTables;
 use crate::sums::sums;
 use crate::turns::turns;
 use cipher::lengths;
 
-// The lent block taken through a round by the tables at the front of t.
-pub fn step(t: &[u8], y: &mut [u8; 16])
-    requires { (round_length ≤ length t.now) × Block y.old }
+// The lent block taken through a round by its tables t.
+pub fn step(t: &RoundTables, y: &mut [u8; 16])
+    requires { Block y.old }
     ensures { y.new ≡ table_round t.now y.old }
 {
     let s = sums(t, *y);
@@ -24,9 +25,9 @@ pub fn rounds(body: &[u8], n: usize, x: [u8; 16]) -> [u8; 16]
     ensures { result ≡ table_rounds (round_at body.now) n x }
 {
     let mut y = x;
-    for l in 0..n {
-        let at = lengths::ROUNDS + lengths::ROUND_TABLES * l;
-        step(&body[at..], &mut y);
+    let (tables, _) = body[lengths::ROUNDS..].as_chunks::<{ lengths::ROUND_TABLES }>();
+    for t in &tables[..n] {
+        step(t, &mut y);
     }
     y
 }

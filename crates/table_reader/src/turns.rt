@@ -1,12 +1,11 @@
 // The new words of a round by its turn tables, from the sums.
-ghost use Rattle.std.specs.Prelude.{◌≡◌, ◌%◌, ◌≤◌, ◌<◌, length};
-ghost use Rattle.cipher.specs.Lengths.{round_length};
+ghost use Rattle.std.specs.Prelude.{◌≡◌, ◌%◌, ◌<◌};
 ghost use Rattle.lists.specs.Blocks.{Block};
 ghost use Rattle.cipher.specs.Coding.{block_half};
 ghost use Rattle.cipher.specs.Tables.{table_round};
 ghost use Rattle.table_reader.specs.Reading.{turn_byte, sum_bytes};
 
-use crate::entry::{high, joined, low, turn_at};
+use crate::entry::{RoundTables, high, joined, low, turn_at};
 
 // Half byte j mod 8 of sum i.
 fn half(s: &[u8; 12], i: usize, j: usize) -> usize
@@ -21,8 +20,8 @@ fn half(s: &[u8; 12], i: usize, j: usize) -> usize
 }
 
 // Byte m of new word i: its half bytes j are turned from the half bytes j + u and j + v of sum i.
-fn turn_two(t: &[u8], s: &[u8; 12], i: usize, m: usize, u: usize, v: usize) -> u8
-    requires { (i < 3) × (m < 4) × (u < 8) × (v < 8) × (round_length ≤ length t.now) }
+fn turn_two(t: &RoundTables, s: &[u8; 12], i: usize, m: usize, u: usize, v: usize) -> u8
+    requires { (i < 3) × (m < 4) × (u < 8) × (v < 8) }
     ensures { result ≡ turn_byte t.now s.now i m u v }
 {
     let lo = turn_at(
@@ -42,10 +41,11 @@ fn turn_two(t: &[u8], s: &[u8; 12], i: usize, m: usize, u: usize, v: usize) -> u
 
 // The lent block taken through the round: word 3 is the old word 0, the others are turned from the
 // sums.
-pub fn turns(t: &[u8], s: &[u8; 12], y: &mut [u8; 16])
-    requires { (round_length ≤ length t.now) × Block y.old × (s.now ≡ sum_bytes t.now y.old) }
+pub fn turns(t: &RoundTables, s: &[u8; 12], y: &mut [u8; 16])
+    requires { Block y.old × (s.now ≡ sum_bytes t.now y.old) }
     ensures { y.new ≡ table_round t.now y.old }
 {
+    // By index: a turn is at one byte of each word, at m, m + 4, m + 8 and m + 12.
     for m in 0..4 {
         y[m + 12] = y[m];
         y[m] = turn_two(t, s, 0, m, 6, 5);

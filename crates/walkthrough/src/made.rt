@@ -1,7 +1,8 @@
 // A key, a chain and an ink file by fixed rules, another for each pad's number.
-ghost use Rattle.std.specs.Prelude.{◌≡◌, ◌<◌, length};
+ghost use Rattle.std.specs.Prelude.{◌<◌};
 
 use cipher::lengths;
+use std::array;
 
 // The ink file, in bytes.
 pub const INK: usize = 9412;
@@ -9,15 +10,33 @@ pub const INK: usize = 9412;
 // How many sets a chain of 24 rounds has, with the message set.
 const SETS: usize = 26;
 
-// The key of pad n.
-pub fn key(n: u8) -> [u8; 16]
-    ensures { 16 ≡ length result }
-{
-    let mut k = [0u8; 16];
-    for i in 0..16 {
-        k[i] = ((31 * i + 77 * (n as usize)) % 256) as u8;
+// The chain of a 16-byte key, which has 24 rounds.
+pub const CHAIN: usize = SETS * lengths::SET + 24 * lengths::ROUND_CODINGS;
+
+// What one ink file's way begins with: the key and the chain of its pad, the file, and an IV.
+#[derive(Drop)]
+pub struct Case {
+    pub key: [u8; 16],
+    pub chain: [u8; CHAIN],
+    pub ink: [u8; INK],
+    pub iv: [u8; 16],
+}
+
+impl Case {
+    // The case of pad n.
+    pub fn of_pad(n: u8) -> Case {
+        Case {
+            key: key(n),
+            chain: chain(n),
+            ink: ink(),
+            iv: key(3),
+        }
     }
-    k
+}
+
+// The key of pad n.
+pub fn key(n: u8) -> [u8; 16] {
+    array::from_fn(|i| ((31 * i + 77 * (n as usize)) % 256) as u8)
 }
 
 // Entry e of coding number n: an odd factor and a shift, mod 16, so each number comes once.
@@ -68,19 +87,11 @@ fn chain_byte(n: u8, i: usize) -> u8 {
 }
 
 // The chain of pad n.
-pub fn chain(n: u8, out: &mut [u8]) {
-    for i in 0..out.len() {
-        out[i] = chain_byte(n, i);
-    }
+pub fn chain(n: u8) -> [u8; CHAIN] {
+    array::from_fn(|i| chain_byte(n, i))
 }
 
 // The ink file: pen strokes, as far as anybody can tell.
-pub fn ink() -> [u8; INK]
-    ensures { 9412 ≡ length result }
-{
-    let mut b = [0u8; INK];
-    for i in 0..INK {
-        b[i] = ((37 * i / 11 + i / 100) % 256) as u8;
-    }
-    b
+fn ink() -> [u8; INK] {
+    array::from_fn(|i| ((37 * i / 11 + i / 100) % 256) as u8)
 }

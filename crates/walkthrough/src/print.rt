@@ -1,67 +1,30 @@
 // Lines of text on standard output.
-ghost use Rattle.std.specs.Prelude.{◌+◌, ◌≤◌, length};
+use std::{fmt, io};
 
-use std::io;
+// Bytes as they are printed, in hex.
+#[derive(Clone, Copy)]
+struct Hex<'a>(&'a [u8]);
 
-pub fn say(rt: &impl Print, text: &[u8]) -> io::Result<()> {
-    rt.write_all(text)
+impl fmt::Display for Hex<'_> {
+    fn fmt<W: fmt::Write>(&self, f: &mut fmt::Formatter<W>) -> fmt::Result {
+        for byte in self.0 {
+            write!(f, "{byte:02x}")?;
+        }
+        Ok(())
+    }
 }
 
-// A number of up to six digits, in as many places.
-pub fn number(rt: &impl Print, n: usize) -> io::Result<()> {
-    if n < 100000 {
-        say(rt, b" ")?;
-    }
-    if n < 10000 {
-        say(rt, b" ")?;
-    }
-    if n < 1000 {
-        say(rt, b" ")?;
-    }
-    if n < 100 {
-        say(rt, b" ")?;
-    }
-    if n < 10 {
-        say(rt, b" ")?;
-    }
-    plain(rt, n)
-}
-
-// A number in as many digits as it has.
-pub fn plain(rt: &impl Print, n: usize) -> io::Result<()> {
-    print!(rt; "{n}")
-}
-
-// The four bytes from a place on, in hex.
-fn four(rt: &impl Print, bytes: &[u8], at: usize) -> io::Result<()>
-    requires { at + 4 ≤ length bytes.now }
-{
-    for k in 0..4 {
-        let byte = bytes[at + k];
-        print!(rt; "{byte:02x}")?;
-    }
-    Ok(())
+// A line: a name, and what is said of it.
+pub fn tell<T: fmt::Display + Copy>(rt: &impl Print, name: &str, what: T) -> io::Result<()> {
+    println!(rt; "   {name:22}{what}")
 }
 
 // A line: a name, how many bytes, and the first and the last four of them.
-pub fn show(rt: &impl Print, name: &[u8], bytes: &[u8]) -> io::Result<()> {
-    say(rt, name)?;
+pub fn show(rt: &impl Print, name: &str, bytes: &[u8]) -> io::Result<()> {
     let n = bytes.len();
-    number(rt, n)?;
-    say(rt, b" bytes")?;
+    print!(rt; "   {name:22}{n:6} bytes")?;
     if 4 <= n {
-        say(rt, b"  ")?;
-        four(rt, bytes, 0)?;
-        say(rt, b" .. ")?;
-        four(rt, bytes, n - 4)?;
+        print!(rt; "  {} .. {}", Hex(&bytes[..4]), Hex(&bytes[n - 4..]))?;
     }
-    say(rt, b"\n")
-}
-
-// A line: a name, and the number of a refusal.
-pub fn refused(rt: &impl Print, name: &[u8], number: u32) -> io::Result<()> {
-    say(rt, name)?;
-    say(rt, b"refused ")?;
-    print!(rt; "{number}")?;
-    say(rt, b"\n")
+    println!(rt)
 }

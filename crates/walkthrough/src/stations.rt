@@ -1,342 +1,232 @@
 // What each station does with an ink file, and prints of it. Round keys are by LEA's own schedule.
-ghost use Rattle.std.specs.Prelude.{◌≡◌, length};
-
 use crate::compare::compare;
-use crate::print::{plain, refused, say, show};
-use archive::check::{Checked, check};
+use crate::made::{CHAIN, Case};
+use crate::print::{show, tell};
+use archive::check::{Verdict, check};
 use archive::open::open;
 use book::build::build;
-use cipher::invert::wide;
 use cipher::lengths;
-use cipher::refusal::{Outcome, Written};
 use cipher::schedules::LEA;
 use driver::lending::{begin, block_call, last_call};
 use driver::seal::seal;
 use driver::session::{Session, spent};
-use pad::code::{TagCode, code_for_sealing, code_for_tag};
+use pad::code::{code_for_sealing, code_for_tag};
 use std::io;
+
+// The book of a 16-byte key, which has 24 rounds.
+const BOOK: usize = lengths::BODY + lengths::ROUNDS + lengths::ROUND_TABLES * 24;
 
 // The ink file padded to blocks, in bytes.
 const CODED: usize = 9424;
+
 // Where the last of the sets of a chain of 24 rounds begins and ends.
 const LAST: usize = lengths::SET * 25;
 
 const LAST_END: usize = lengths::SET * 26;
 
-// A buffer for so many bytes.
-pub fn room() -> [u8; CODED]
-    ensures { 9424 ≡ length result }
-{
-    [0u8; CODED]
+// What the driver sends to the server, and the server to the archive.
+#[derive(Clone, Copy)]
+pub struct Sent {
+    iv: [u8; 16],
+    sealed: [u8; CODED],
+    tag: [u8; 16],
 }
 
-// What a book says of its key.
-fn key_stated(rt: &impl Print, book: &[u8]) -> io::Result<()> {
-    if book.len() == 0 {
-        return Ok(());
-    }
-    say(rt, b"        for a key of ")?;
-    plain(rt, wide(book[0]))?;
-    say(rt, b" bytes, as its first byte says\n")
+// A buffer for a book.
+pub fn book_room() -> [u8; BOOK] {
+    [0u8; BOOK]
 }
 
 // The works: a book from a key and a chain.
-pub fn works(rt: &impl Print, key: &[u8], chain: &[u8], book: &mut [u8]) -> io::Result<()> {
-    show(rt, b"   in   key              ", key)?;
-    show(rt, b"   in   chain            ", chain)?;
-    if let Outcome::Refused(why) = build(LEA, key, chain, book) {
-        return refused(rt, b"   out  book             ", why.number());
+pub fn works(
+    rt: &impl Print,
+    key: &[u8; 16],
+    chain: &[u8; CHAIN],
+    book: &mut [u8; BOOK],
+) -> io::Result<()> {
+    show(rt, "in   key", key)?;
+    show(rt, "in   chain", chain)?;
+    if let Err(why) = build(LEA, key, chain, book) {
+        return tell(rt, "out  book", why);
     }
-    show(rt, b"   out  book             ", book)?;
-    key_stated(rt, book)
+    show(rt, "out  book", book)?;
+    println!(rt;
+        "        for a key of {} bytes, as its first byte says",
+        book[0]
+    )
 }
 
-// The pad: codes the ink for sealing and for a tag, and answers the kind.
+// The pad, which has the message set of the chain: codes the ink for sealing and for a tag, and answers
+// the kind, a byte as the driver takes it. A refusal is printed; 0 is no kind, and the driver refuses it.
 fn pad_codes(
     rt: &impl Print,
-    u: &[u8],
-    ink: &[u8],
-    for_sealing: &mut [u8],
-    for_tag: &mut [u8],
+    case: &Case,
+    for_sealing: &mut [u8; CODED],
+    for_tag: &mut [u8; CODED],
 ) -> io::Result<u8> {
-    say(
-        rt,
-        b"\nTuesday, at the counter\n2. The pad codes the ink, and has no key\n",
-    )?;
-    show(rt, b"   in   message set      ", u)?;
-    show(rt, b"   in   ink file         ", ink)?;
-    if let Written::Refused(why) = code_for_sealing(u, ink, for_sealing) {
-        refused(rt, b"   out  coded to seal    ", why.number())?;
+    let u = &case.chain[..lengths::SET];
+    println!(rt; "\nTuesday, at the counter\n2. The pad codes the ink, and has no key")?;
+    show(rt, "in   message set", u)?;
+    show(rt, "in   ink file", &case.ink)?;
+    if let Err(why) = code_for_sealing(u, &case.ink, for_sealing) {
+        tell(rt, "out  coded to seal", why)?;
     }
-    show(rt, b"   out  coded to seal    ", for_sealing)?;
-    let TagCode::Coded(_, kind) = code_for_tag(u, ink, for_tag) else {
-        say(rt, b"   out  coded for a tag  refused\n")?;
+    show(rt, "out  coded to seal", for_sealing)?;
+    let Ok(code) = code_for_tag(u, &case.ink, for_tag) else {
+        tell(rt, "out  coded for a tag", "refused")?;
         return Ok(0);
     };
-    show(rt, b"   out  coded for a tag  ", for_tag)?;
-    Ok(kind)
+    show(rt, "out  coded for a tag", for_tag)?;
+    Ok(code.kind)
 }
 
 // The driver: seals a coded file.
 fn seal_file(
     rt: &impl Print,
-    book: &[u8],
-    iv: &[u8],
-    coded: &[u8],
-    sealed: &mut [u8],
+    book: &[u8; BOOK],
+    iv: &[u8; 16],
+    coded: &[u8; CODED],
+    sealed: &mut [u8; CODED],
 ) -> io::Result<()> {
-    show(rt, b"   in   IV               ", iv)?;
-    if let Written::Refused(why) = seal(book, iv, coded, sealed) {
-        return refused(rt, b"   out  sealed file      ", why.number());
+    show(rt, "in   IV", iv)?;
+    if let Err(why) = seal(book, iv, coded, sealed) {
+        return tell(rt, "out  sealed file", why);
     }
-    show(rt, b"   out  sealed file      ", sealed)
+    show(rt, "out  sealed file", sealed)
 }
 
-// A fresh session on a book.
-fn fresh(book: &[u8]) -> Session {
-    let begun = begin(spent(), book);
-    begun.session
-}
-
-// The session after the block calls for all blocks of a coded file but the last.
-fn block_calls(start: Session, book: &[u8], coded: &[u8]) -> Session {
+// The session after the block calls for some blocks; a call that is refused leaves it as it was.
+fn block_calls(start: Session, book: &[u8; BOOK], blocks: &[u8]) -> Session {
     let mut s = start;
-    let n = coded.len() / lengths::BLOCK;
-    let mut k = 1;
-    while k < n {
-        let at = lengths::BLOCK * (k - 1);
-        let a = block_call(s, book, &coded[at..at + lengths::BLOCK]);
-        s = a.session;
-        k += 1;
+    for block in blocks.chunks_exact(lengths::BLOCK) {
+        s = block_call(s, book, block).unwrap_or(s);
     }
     s
 }
 
-// The driver: makes the tag of a coded file, on a session that is lent to each call.
-fn make_tag(rt: &impl Print, book: &[u8], coded: &[u8], kind: u8) -> io::Result<[u8; 16]> {
-    let s = block_calls(fresh(book), book, coded);
-    let n = coded.len();
-    if n < lengths::BLOCK {
-        return Ok([0u8; 16]);
-    }
-    let last = last_call(s, book, &coded[n - lengths::BLOCK..], kind);
-    let answer = last.answer;
-    let tag = answer.block;
-    show(rt, b"   out  tag              ", &tag)?;
+// The driver: makes the tag of a coded file, on a session that is lent to each call. A tag that is
+// refused is shown as zeros.
+fn make_tag(
+    rt: &impl Print,
+    book: &[u8; BOOK],
+    coded: &[u8; CODED],
+    kind: u8,
+) -> io::Result<[u8; 16]> {
+    let (front, last) = coded.split_at(CODED - lengths::BLOCK);
+    let fresh = begin(spent(), book).unwrap_or(spent());
+    let s = block_calls(fresh, book, front);
+    let tag = last_call(s, book, last, kind).map_or([0u8; 16], |(tag, _)| tag);
+    show(rt, "out  tag", &tag)?;
     Ok(tag)
 }
 
-// The counter: the pad, which has the chain's message set u, codes the ink; the driver on the teller's
-// PC seals it and makes its tag.
-fn counter(
-    rt: &impl Print,
-    u: &[u8],
-    ink: &[u8],
-    book: &[u8],
-    iv: &[u8],
-    sealed: &mut [u8],
-) -> io::Result<[u8; 16]> {
-    let mut for_sealing = room();
-    let mut for_tag = room();
-    let kind = pad_codes(rt, u, ink, &mut for_sealing, &mut for_tag)?;
-    say(
-        rt,
-        b"\n3. The driver has the book and no key: it seals the file and makes its tag\n",
-    )?;
-    show(rt, b"   in   book             ", book)?;
-    seal_file(rt, book, iv, &for_sealing, sealed)?;
-    make_tag(rt, book, &for_tag, kind)
+// The counter: the pad codes the ink; the driver on the teller's PC seals it and makes its tag.
+fn counter(rt: &impl Print, case: &Case, book: &[u8; BOOK]) -> io::Result<Sent> {
+    let mut for_sealing = [0u8; CODED];
+    let mut for_tag = [0u8; CODED];
+    let kind = pad_codes(rt, case, &mut for_sealing, &mut for_tag)?;
+    println!(rt; "\n3. The driver has the book and no key: it seals the file and makes its tag")?;
+    show(rt, "in   book", book)?;
+    let mut sealed = [0u8; CODED];
+    seal_file(rt, book, &case.iv, &for_sealing, &mut sealed)?;
+    let tag = make_tag(rt, book, &for_tag, kind)?;
+    Ok(Sent {
+        iv: case.iv,
+        sealed,
+        tag,
+    })
 }
 
 // The server: keeps what the driver sends and cannot read it.
-fn server(rt: &impl Print, iv: &[u8], sealed: &[u8], tag: &[u8]) -> io::Result<()> {
-    say(
-        rt,
-        b"\nTuesday night, on the server\n4. The server keeps what it was sent, unread\n",
-    )?;
-    show(rt, b"   has  IV               ", iv)?;
-    show(rt, b"   has  sealed file      ", sealed)?;
-    show(rt, b"   has  tag              ", tag)
+fn server(rt: &impl Print, sent: &Sent) -> io::Result<()> {
+    println!(rt; "\nTuesday night, on the server\n4. The server keeps what it was sent, unread")?;
+    show(rt, "has  IV", &sent.iv)?;
+    show(rt, "has  sealed file", &sent.sealed)?;
+    show(rt, "has  tag", &sent.tag)
 }
 
-// The archive: checks the tag of a message. A refusal is no verdict, and says so.
-fn judge(
-    rt: &impl Print,
-    key: &[u8],
-    set: &[u8],
-    message: &[u8],
-    tag: &[u8],
-    ink: &[u8],
-) -> io::Result<bool> {
-    show(rt, b"   out  message          ", message)?;
-    compare(rt, message, ink)?;
-    match check(LEA, key, set, message, tag) {
-        Checked::Valid => {
-            say(rt, b"   out  verdict          Valid\n")?;
-            Ok(true)
+// The archive: checks the tag of a message; whether it says Valid. A refusal is no verdict, and says so.
+fn judge(rt: &impl Print, case: &Case, message: &[u8], tag: &[u8; 16]) -> io::Result<bool> {
+    show(rt, "out  message", message)?;
+    compare(rt, message, &case.ink)?;
+    match check(LEA, &case.key, &case.chain[LAST..LAST_END], message, tag) {
+        Ok(verdict) => {
+            println!(rt; "   out  verdict          {verdict:?}")?;
+            Ok(verdict == Verdict::Valid)
         }
-        Checked::Invalid => {
-            say(rt, b"   out  verdict          Invalid\n")?;
-            Ok(false)
-        }
-        Checked::Refused(why) => {
-            refused(rt, b"   out  verdict          none: ", why.number())?;
+        Err(why) => {
+            println!(rt; "   out  verdict          none: {why}")?;
             Ok(false)
         }
     }
-}
-
-// The front of a text as the message that a length tells.
-fn judge_front(
-    rt: &impl Print,
-    key: &[u8],
-    set: &[u8],
-    text: &[u8],
-    n: usize,
-    tag: &[u8],
-    ink: &[u8],
-) -> io::Result<bool> {
-    if text.len() < n {
-        return Ok(false);
-    }
-    judge(rt, key, set, &text[0..n], tag, ink)
 }
 
 // The archive: opens the sealed file and checks the tag of what it held; whether it says Valid. Where
 // nothing is opened, there is nothing to check.
-fn archive_says(
-    rt: &impl Print,
-    key: &[u8],
-    set: &[u8],
-    ink: &[u8],
-    iv: &[u8],
-    sealed: &[u8],
-    tag: &[u8],
-) -> io::Result<bool> {
-    let mut text = room();
-    match open(LEA, key, set, iv, sealed, &mut text) {
-        Written::Bytes(n) => judge_front(rt, key, set, &text, n, tag, ink),
-        Written::Refused(why) => {
-            refused(rt, b"   out  message          none: ", why.number())?;
-            say(
-                rt,
-                b"   out  verdict          none: nothing was opened, so no tag was checked\n",
+fn archive_says(rt: &impl Print, case: &Case, sent: &Sent) -> io::Result<bool> {
+    let mut text = [0u8; CODED];
+    let set = &case.chain[LAST..LAST_END];
+    match open(LEA, &case.key, set, &sent.iv, &sent.sealed, &mut text) {
+        Ok(n) => {
+            let Some(message) = text.get(..n) else {
+                return Ok(false);
+            };
+            judge(rt, case, message, &sent.tag)
+        }
+        Err(why) => {
+            println!(rt; "   out  message          none: {why}")?;
+            println!(rt;
+                "   out  verdict          none: nothing was opened, so no tag was checked"
             )?;
             Ok(false)
         }
     }
 }
 
+// The works, the counter and the server, each with its part of the chain; what is sent.
+pub fn front(rt: &impl Print, case: &Case) -> io::Result<Sent> {
+    println!(rt; "Monday, at the works\n1. The works builds the pad's book")?;
+    let mut book = book_room();
+    works(rt, &case.key, &case.chain, &mut book)?;
+    let sent = counter(rt, case, &book)?;
+    server(rt, &sent)?;
+    println!(rt; "\nWednesday, at the bank")?;
+    Ok(sent)
+}
+
 // The bank: the archive, which has the key and the last set, and the loan desk.
-fn bank(
-    rt: &impl Print,
-    key: &[u8],
-    set: &[u8],
-    ink: &[u8],
-    iv: &[u8],
-    sealed: &[u8],
-    tag: &[u8],
-) -> io::Result<()> {
-    say(
-        rt,
-        b"5. The archive has the key and the last set: it opens the file and checks the tag\n",
+pub fn back(rt: &impl Print, case: &Case, sent: &Sent) -> io::Result<()> {
+    println!(rt;
+        "5. The archive has the key and the last set: it opens the file and checks the tag"
     )?;
-    show(rt, b"   in   sealed file      ", sealed)?;
-    show(rt, b"   in   tag              ", tag)?;
-    if archive_says(rt, key, set, ink, iv, sealed, tag)? {
-        say(rt, b"\n6. The loan desk releases the loan\n")
+    show(rt, "in   sealed file", &sent.sealed)?;
+    show(rt, "in   tag", &sent.tag)?;
+    if archive_says(rt, case, sent)? {
+        println!(rt; "\n6. The loan desk releases the loan")
     } else {
-        say(rt, b"\n6. The loan desk releases nothing\n")
+        println!(rt; "\n6. The loan desk releases nothing")
     }
-}
-
-// Byte k of a file of which a bit of the byte at a place is flipped; 0 after its end.
-fn flipped(bytes: &[u8], at: usize, bit: u8, k: usize) -> u8 {
-    if bytes.len() <= k {
-        return 0;
-    }
-    if k == at {
-        return bytes[k] ^ bit;
-    }
-    bytes[k]
-}
-
-// A file in a buffer, one bit of it flipped.
-fn put_flipped(bytes: &[u8], at: usize, bit: u8, out: &mut [u8]) {
-    for k in 0..out.len() {
-        out[k] = flipped(bytes, at, bit, k);
-    }
-}
-
-// The works, the counter and the server, each with its part of the chain; the tag.
-pub fn front(
-    rt: &impl Print,
-    key: &[u8],
-    chain: &[u8],
-    ink: &[u8],
-    iv: &[u8],
-    book: &mut [u8],
-    sealed: &mut [u8],
-) -> io::Result<[u8; 16]> {
-    say(
-        rt,
-        b"Monday, at the works\n1. The works builds the pad's book\n",
-    )?;
-    works(rt, key, chain, book)?;
-    if chain.len() < LAST_END {
-        return Ok([0u8; 16]);
-    }
-    let tag = counter(rt, &chain[0..lengths::SET], ink, book, iv, sealed)?;
-    server(rt, iv, sealed, &tag)?;
-    say(rt, b"\nWednesday, at the bank\n")?;
-    Ok(tag)
-}
-
-// The archive, with its part of the chain, and the loan desk.
-pub fn back(
-    rt: &impl Print,
-    key: &[u8],
-    chain: &[u8],
-    ink: &[u8],
-    iv: &[u8],
-    sealed: &[u8],
-    tag: &[u8],
-) -> io::Result<()> {
-    if LAST_END <= chain.len() {
-        bank(rt, key, &chain[LAST..LAST_END], ink, iv, sealed, tag)?;
-    }
-    Ok(())
 }
 
 // The archive and the loan desk with a bit of the sealed file flipped, in its middle and in the block
 // before the last, and with a bit of the tag flipped.
-pub fn damaged(
-    rt: &impl Print,
-    key: &[u8],
-    chain: &[u8],
-    ink: &[u8],
-    iv: &[u8],
-    sealed: &[u8],
-    tag: &[u8],
-) -> io::Result<()> {
-    say(
-        rt,
-        b"\nFriday, the file again: bit 2 of byte 4711 of it, in block 294, was flipped on the server\n",
+pub fn damaged(rt: &impl Print, case: &Case, sent: &Sent) -> io::Result<()> {
+    println!(rt;
+        "\nFriday, the file again: bit 2 of byte 4711 of it, in block 294, was flipped on the server"
     )?;
-    let mut bad = room();
-    put_flipped(sealed, 4711, 4, &mut bad);
-    back(rt, key, chain, ink, iv, &bad, tag)?;
-    say(
-        rt,
-        b"\nFriday, once more: bit 4 of byte 9407, the last of the block before the last, was flipped\n",
+    let mut bad = *sent;
+    bad.sealed[4711] ^= 4;
+    back(rt, case, &bad)?;
+    println!(rt;
+        "\nFriday, once more: bit 4 of byte 9407, the last of the block before the last, was flipped"
     )?;
-    put_flipped(sealed, 9407, 16, &mut bad);
-    back(rt, key, chain, ink, iv, &bad, tag)?;
-    say(
-        rt,
-        b"\nFriday, the file as it was: bit 0 of byte 3 of its tag was flipped on the server\n",
+    bad = *sent;
+    bad.sealed[9407] ^= 16;
+    back(rt, case, &bad)?;
+    println!(rt;
+        "\nFriday, the file as it was: bit 0 of byte 3 of its tag was flipped on the server"
     )?;
-    let mut bad_tag = [0u8; 16];
-    put_flipped(tag, 3, 1, &mut bad_tag);
-    back(rt, key, chain, ink, iv, sealed, &bad_tag)
+    bad = *sent;
+    bad.tag[3] ^= 1;
+    back(rt, case, &bad)
 }

@@ -9,22 +9,15 @@ ghost use Rattle.wf_lea.specs.WfLea as R;
 
 use sha256::block::copied;
 use sha256::digest;
-use words::word::word_at;
+use words::word::words_of;
 
 // The first six words of the digest of m.
+#[tactic(auto, unfolding(crate::specs::WfLea::first_six))]
 fn row(m: &[u8]) -> [u32; 6]
     requires { length m.now ≤ 55 }
     ensures { result ≡ R.first_six (sha256 m.now) }
 {
-    let d = digest(m);
-    [
-        word_at(&d, 0),
-        word_at(&d, 4),
-        word_at(&d, 8),
-        word_at(&d, 12),
-        word_at(&d, 16),
-        word_at(&d, 20),
-    ]
+    words_of(&digest(m))
 }
 
 // The first n rows of a key, then blank ones.
@@ -35,9 +28,9 @@ pub fn rows(key: &[u8], n: usize) -> [[u32; 6]; 32]
     let k = key.len();
     let mut m = copied(key);
     let mut rows = [[0u32; 6]; 32];
-    for l in 0..n {
+    for (l, r) in rows[0..n].iter_mut().enumerate() {
         m[k] = (l + 1) as u8;
-        rows[l] = row(&m[0..k + 1]);
+        *r = row(&m[0..k + 1]);
     }
     rows
 }

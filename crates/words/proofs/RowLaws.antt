@@ -1,16 +1,17 @@
 -- Lists of words and rows of them: what they are joined of, and what is read from them, are words.
 use mathlib.Core.Path.{◌≡◌, refl, ap, ◌∙◌}
-use Prim.Native.Nat.{ℕ, zero, suc, ◌+◌, ◌-◌, ◌^◌, ◌<◌}
+use Prim.Native.Nat.{ℕ, zero, suc, ◌+◌, ◌-◌, ◌^◌, ◌≤◌, ◌<◌}
 use native.Mathlib.Omega.{arith}
 use native.Mathlib.Decide.{dec_lt}
 use native.Mathlib.Numerals.{add-one}
-use mathlib.Core.List.{List, [], ◌∷◌, ◌++◌}
+use mathlib.Core.List.{List, [], ◌∷◌, ◌++◌, append-nil}
 use lib.Dec.{lit<}
-use lib.ListN.{get_or, length, set, replicate, length-append, get_or-append}
+use lib.ListN.{get_or, length, set, take, drop, replicate, length-append, get_or-append}
 use lib.Seq.{get_or_at}
 use Rattle.lists.specs.Blocks.{Below, Bytes}
 use Rattle.words.specs.Word.{word, word_at, words4}
 use Rattle.lists.proofs.PartLaws.{fill_more}
+use Rattle.std.proofs.lemmas.List.{take-replicate, drop-replicate}
 use Rattle.words.specs.Rows.{blank, first_rows, thirty_two, RowsOfWords}
 
 -- a list of words, and rows of them
@@ -61,10 +62,30 @@ module _ (f : ℕ → List ℕ) where
   first_length zero = refl
   first_length (suc n) = length-append (first_rows f n) _ ∙ add-one _ ∙ ap suc (first_length n)
 
-  -- row i stored at its place behind the first i
-  pub row_stored : (i : ℕ) (rows : List (List ℕ)) (r : List ℕ) → i < 32 → rows ≡ thirty_two f i → r ≡ f i → set rows i r ≡ thirty_two f (i + 1)
+  -- of n rows the first i, the others blank
+  abbrev pub first_of : ℕ → ℕ → List (List ℕ)
+  first_of n i = first_rows f i ++ replicate (n - i) blank
+
+  -- the front of 32 blank rows, as the borrow checker writes the part that is lent
+  pub rows_none : (n : ℕ) → n ≤ 32 → take (n - 0) (replicate 32 blank) ≡ first_of n 0
   unfolding first_rows
-  row_stored i rows r h er e = (λ z. set (er z) i (e z)) ∙ fill_more 32 i blank (f i) (first_rows f i) (first_length i) h ∙ rw add-one
+  rows_none n h = take-replicate (n - 0) 32 blank (omega arith)
+
+  -- row i stored at its place behind the first i
+  pub row_put : (n i : ℕ) (rows : List (List ℕ)) (r : List ℕ) → i < n → rows ≡ first_of n i → r ≡ f i → set rows i r ≡ first_of n (i + 1)
+  unfolding first_rows
+  row_put n i rows r h er e = (λ z. set (er z) i (e z)) ∙ fill_more n i blank (f i) (first_rows f i) (first_length i) h ∙ rw add-one
+
+  pub row_stored : (i : ℕ) (rows : List (List ℕ)) (r : List ℕ) → i < 32 → rows ≡ thirty_two f i → r ≡ f i → set rows i r ≡ thirty_two f (i + 1)
+  row_stored = row_put 32
+
+  -- all n stored, and the other rows of the 32
+  pub rows_put : (n i : ℕ) (rows : List (List ℕ)) → i ≡ n → rows ≡ first_of n i → rows ++ drop (n - 0) (replicate 32 blank) ≡ thirty_two f n
+  rows_put n i rows h e =
+      let none_left : n - n ≡ 0 = omega arith in
+      let from : n - 0 ≡ n = omega arith in
+      ap (λ (l : List (List ℕ)). l ++ drop (n - 0) (replicate 32 blank)) (e ∙ ap (first_of n) h ∙ ap (λ (k : ℕ). first_rows f n ++ replicate k blank) none_left ∙ append-nil (first_rows f n))
+      ∙ ap (λ (l : List (List ℕ)). first_rows f n ++ l) (ap (λ (k : ℕ). drop k (replicate 32 blank)) from ∙ drop-replicate n 32 blank)
 
   -- row i read
   first_at : (n i : ℕ) → i < n → get_or (first_rows f n) i [] ≡ f i

@@ -1,15 +1,19 @@
 -- Laws of the operations on words: shifts joined by an or are a rotation, a rotation is undone by the other, a sum by
 -- the difference, an xor by itself, and a word and its four bytes go into each other.
-use mathlib.Core.Path.{◌≡◌, sym, ap, ap₂, ◌∙◌, subst}
+use mathlib.Core.Path.{◌≡◌, refl, sym, ap, ap₂, ◌∙◌, subst}
 use Prim.Native.Nat.{ℕ, zero, suc, ◌+◌, ◌-◌, ◌*◌, ◌/◌, ◌%◌, ◌^◌, ◌≤◌, ◌<◌}
 use native.Mathlib.Nat.{add-zero, mul-mod_left, mod-lt, mod-eq_of_lt}
 use native.Mathlib.Omega.{arith}
 use mathlib.Core.List.{[], ◌∷◌}
 use lib.Arith.{digits_lt}
+use lib.Dec.{lit<}
+use lib.ListN.{get_or}
+use Rattle.std.proofs.lemmas.Nat.{le_bytes_4, from_le_bytes-to_le_bytes_4}
 use lib.Pow.{mod-pow-add, shl-shr, shr_lt, pow_pos, pow-add, high, low, split}
 use lib.Bits.{bit_or, bit_xor, or_self, or_shifted, or_shifted_r, xor_lt, xor_block}
 use Rattle.lists.proofs.XorLaws.{xor_cancel}
-use Rattle.words.specs.Word.{add, sub, xor, turn_left, turn_right, word, bytes_of}
+use Rattle.std.specs.Int.{w32, rotate_left, rotate_right}
+use Rattle.words.specs.Word.{add, sub, xor, turn_left, turn_right, rol, ror, word, bytes_of}
 
 -- what a shift to the left leaves of a word
 shl_part : (x k : ℕ) → k ≤ 32 → (x * 2 ^ k) % 2 ^ 32 ≡ x % 2 ^ (32 - k) * 2 ^ k
@@ -48,19 +52,30 @@ right_none : (x : ℕ) → x < 2 ^ 32 → x ≡ turn_right 0 x
 unfolding turn_right
 right_none x h = omega arith
 
-pub rotate_left_is : (x k : ℕ) → x < 2 ^ 32 → k < 32 → bit_or ((x * 2 ^ k) % 2 ^ 32) (x / 2 ^ ((32 - k) % 32)) ≡ turn_left k x
+rotate_left_is : (x k : ℕ) → x < 2 ^ 32 → k < 32 → bit_or ((x * 2 ^ k) % 2 ^ 32) (x / 2 ^ ((32 - k) % 32)) ≡ turn_left k x
 rotate_left_is x zero h l =
     let e : (x * 2 ^ 0) % 2 ^ 32 ≡ x = omega arith in
     let f : x / 2 ^ ((32 - 0) % 32) ≡ x = omega arith in
     ap₂ bit_or e f ∙ or_self x ∙ left_none x h
 rotate_left_is x (suc k) h l = rw (other_more (suc k) (omega arith) l) (left_or x (suc k) h (omega arith))
 
-pub rotate_right_is : (x k : ℕ) → x < 2 ^ 32 → k < 32 → bit_or (x / 2 ^ k) ((x * 2 ^ ((32 - k) % 32)) % 2 ^ 32) ≡ turn_right k x
+rotate_right_is : (x k : ℕ) → x < 2 ^ 32 → k < 32 → bit_or (x / 2 ^ k) ((x * 2 ^ ((32 - k) % 32)) % 2 ^ 32) ≡ turn_right k x
 rotate_right_is x zero h l =
     let e : x / 2 ^ 0 ≡ x = omega arith in
     let f : (x * 2 ^ ((32 - 0) % 32)) % 2 ^ 32 ≡ x = omega arith in
     ap₂ bit_or e f ∙ or_self x ∙ right_none x h
 rotate_right_is x (suc k) h l = rw (other_more (suc k) (omega arith) l) (right_or x (suc k) h (omega arith))
+
+-- what the methods of these names give, which take the count mod 32 once more
+pub rotated_left : (n x : ℕ) → x < 2 ^ 32 → rotate_left w32 x (n % 32) ≡ rol n x
+rotated_left n x h =
+    let e : n % 32 % 32 ≡ n % 32 = omega arith in
+    rotate_left_is x (n % 32 % 32) h (omega arith) ∙ ap (λ (k : ℕ). turn_left k x) e
+
+pub rotated_right : (n x : ℕ) → x < 2 ^ 32 → rotate_right w32 x (n % 32) ≡ ror n x
+rotated_right n x h =
+    let e : n % 32 % 32 ≡ n % 32 = omega arith in
+    rotate_right_is x (n % 32 % 32) h (omega arith) ∙ ap (λ (k : ℕ). turn_right k x) e
 
 -- ---- what undoes what
 
@@ -128,24 +143,18 @@ xor_xor a b = xor_cancel a b
 pub bytes_word : (a b c d : ℕ) → a < 256 → b < 256 → c < 256 → d < 256 → bytes_of (word a b c d) ≡ a ∷ b ∷ c ∷ d ∷ []
 unfolding bytes_of word
 bytes_word a b c d p q r s =
-    let w : ℕ = a + 256 * b + 65536 * c + 16777216 * d in
-    let h1 : w / 256 ≡ b + 256 * c + 65536 * d = omega arith in
-    let m1 : (b + 256 * c + 65536 * d) % 256 ≡ b = omega arith in
-    let h2 : w / 65536 ≡ c + 256 * d = omega arith in
-    let m2 : (c + 256 * d) % 256 ≡ c = omega arith in
-    let e0 : w % 256 ≡ a = omega arith in
-    let e1 : w / 256 % 256 ≡ b = ap (λ (n : ℕ). n % 256) h1 ∙ m1 in
-    let e2 : w / 65536 % 256 ≡ c = ap (λ (n : ℕ). n % 256) h2 ∙ m2 in
-    let h3 : w / 16777216 ≡ d = omega arith in
-    let m3 : d % 256 ≡ d = omega arith in
-    let e3 : w / 16777216 % 256 ≡ d = ap (λ (n : ℕ). n % 256) h3 ∙ m3 in
-    cc
+    le_bytes_4 (a ∷ b ∷ c ∷ d ∷ []) (a + 256 * b + 65536 * c + 16777216 * d) refl small (omega arith)
+  where
+    small : (i : ℕ) → get_or (a ∷ b ∷ c ∷ d ∷ []) i 0 < 256
+    small zero = p
+    small (suc zero) = q
+    small (suc (suc zero)) = r
+    small (suc (suc (suc zero))) = s
+    small (suc (suc (suc (suc i)))) = lit< tt
 
 pub word_bytes : (w : ℕ) → w < 2 ^ 32 → word (w % 256) (w / 256 % 256) (w / 65536 % 256) (w / 16777216 % 256) ≡ w
 unfolding word
-word_bytes w h =
-    let m : w / 16777216 % 256 ≡ w / 16777216 = omega arith in
-    rw m (omega arith)
+word_bytes w h = omega (arith, from_le_bytes-to_le_bytes_4 w h)
 
 -- xor of words, byte by byte
 pub word_xor : (a b c d e f g h : ℕ) → a < 256 → b < 256 → c < 256 → e < 256 → f < 256 → g < 256

@@ -1,9 +1,12 @@
 -- `bowlinette_round_keys` meets its contract.
-use Rattle.bowlinette.proofs.IntoLaws.{taken, refused}
+use Rattle.std.proofs.Common.{ℕ, List, refl, ap, ◌∙◌}
+use Rattle.cipher.specs.Answers.{row_told}
+use Rattle.bowlinette.specs.Into.{into}
+use Rattle.bowlinette.proofs.IntoLaws.{delivered_told, itself}
 use Rattle.bowlinette.proofs.bowlinette_round_keys.Goals as goal
 
-pub returns-then-number-eq0 : goal.returns-then-number-eq0
-returns-then-number-eq0 c = taken _ _ _ _ _ c.round_keys-a.ensures c.number-number.ensures c.if-number-eq0.true
-
-pub returns-else-number-eq0 : goal.returns-else-number-eq0
-returns-else-number-eq0 c = refused _ _ _ _ _ c.round_keys-a.ensures c.number-number.ensures c.if-number-eq0.false
+pub returns : goal.returns
+returns c =
+    c.deliver.ensures
+    ∙ delivered_told row_told (λ b. b) _ (λ b. refl) (λ q. refl) c.round_keys.result _ _ (itself _)
+    ∙ ap (λ (t : ℕ × List ℕ). into t c.args.row.now) c.round_keys.ensures

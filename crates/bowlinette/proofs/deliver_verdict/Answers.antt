@@ -1,16 +1,20 @@
 -- `deliver_verdict` meets its contract.
-use mathlib.Core.Path.{sym, ap}
-use Prim.Native.Nat.{ℕ}
+use Rattle.std.proofs.Common.{◌≡◌, ℕ, Ok, refl, sym, ap, ◌∙◌, rules}
 use Rattle.archive.specs.Archive.{checked_told}
-use Rattle.bowlinette.specs.Into.{into}
-use Rattle.bowlinette.proofs.IntoLaws.{into_refused}
+use Rattle.archive.specs.declared.check.Verdict.{Verdict}
+use Rattle.archive.specs.declared.check.Verdict.TheVariants.{Valid, Invalid}
+use Rattle.bowlinette.proofs.IntoLaws.{delivered_told, mapped}
 use Rattle.bowlinette.proofs.deliver_verdict.Goals as goal
 
-pub returns-in-Valid : goal.returns-in-Valid
-returns-in-Valid c = ap (λ (t : ℕ × ℕ). into t c.args.valid.now) (sym (ap checked_told c.in-Valid.is))
+abbrev told : Verdict → ℕ
+told v = (checked_told (Ok v)).1
 
-pub returns-in-Invalid : goal.returns-in-Invalid
-returns-in-Invalid c = ap (λ (t : ℕ × ℕ). into t c.args.valid.now) (sym (ap checked_told c.in-Invalid.is))
+verdict_told : (v : Verdict) → checked_told (Ok v) ≡ (0, told v)
+verdict_told Valid = refl
+verdict_told Invalid = refl
 
-pub returns-in-Refused : goal.returns-in-Refused
-returns-in-Refused c = into_refused _ c.in-Refused.why _ _ (sym (ap checked_told c.in-Refused.is)) c.number.ensures
+pub returns : goal.returns
+returns c =
+    c.deliver.ensures
+    ∙ delivered_told checked_told told 0 verdict_told (λ q. refl) c.args.checked c.map.result c.args.valid.now
+    (mapped told _ _ _ (λ x y k. let e : checked_told (Ok x) ≡ (0, y) = search rules in ap (λ (p : ℕ × ℕ). p.1) (sym e)) c.map.ensures.cases)

@@ -18,7 +18,7 @@ returns-then-message-gt-ONE_BLOCK c =
     let a = c.args in
     let m = a.message.now in
     let e = first_hit {A = ℕ × List ℕ} (ltb 55 (length m)) 8 [] (λ n. (n, replicate 32 0)) (0, sha256 m) (lt-ltb 55 (length m) c.if-message-gt-ONE_BLOCK.true) in
-    (λ i. (c.number.ensures i, a.out.now)) ∙ sym (ap (λ (t : ℕ × List ℕ). into t a.out.now) e)
+    (λ i. (c.into.ensures i, a.out.now)) ∙ sym (ap (λ (t : ℕ × List ℕ). into t a.out.now) e)
 
 pub returns : goal.returns
 unfolding sha256_answer first

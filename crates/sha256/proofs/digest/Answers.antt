@@ -1,20 +1,12 @@
--- `digest` meets its contract. The invariant: i bytes are written.
-use Rattle.std.proofs.Common.{ℕ, List, refl, ap, ◌∙◌, arith}
+-- `digest` meets its contract.
+use Rattle.std.proofs.Common.{List, ℕ, ap, ◌∙◌, rules}
 use Rattle.lists.specs.Tabulation.{tab}
-use Rattle.lists.proofs.PartLaws.{fill_turn, fill_full}
+use Rattle.lists.proofs.FromFnLaws.{tab_from_fn}
 use Rattle.sha256.proofs.DigestLaws.{byte_of, sha256_tab}
 use Rattle.sha256.proofs.digest.Goals as goal
 
-pub loop-i-init : goal.loop-i-init
-unfolding tab
-loop-i-init c = (omega arith, refl)
-
-pub loop-i-preserved : goal.loop-i-preserved
-loop-i-preserved c =
-    (omega arith, fill_turn (byte_of c.hash-h.result) 32 c.loop-i.d c.loop-i.i _ c.loop-i.invariant.1 refl (omega arith))
-
 pub returns : goal.returns
 returns c =
-    fill_full (byte_of c.hash-h.result) 32 c.loop-i.d c.loop-i.i c.loop-i.invariant.1 (omega arith)
+    tab_from_fn _ _ _ (byte_of c.hash-h.result) 32 (λ i y q b w. search rules) c.from_fn.ensures.items
     ∙ ap (λ (h : List ℕ). tab 32 (byte_of h)) c.hash-h.ensures
     ∙ sha256_tab _

@@ -1,19 +1,18 @@
 -- `rows` meets its contract. The invariant: l rows are stored, and the buffer still begins with the key.
-use mathlib.Core.Path.{◌≡◌, refl, ap, ◌∙◌}
+use mathlib.Core.Path.{◌∙◌}
 use native.Mathlib.Nat.{le_refl}
 use native.Mathlib.Omega.{arith}
 use lib.ListN.{length, length-set}
 use lib.Seq.{take-set-le}
-use Rattle.words.specs.Rows.{first_rows}
-use Rattle.wf_lea.specs.WfLea.{rows}
+use Rattle.words.proofs.RowLaws.{rows_none}
+use Rattle.wf_lea.specs.WfLea.{row}
 use Rattle.wf_lea.proofs.MessageLaws.{key_front, message_is, message_room, message_fits}
-use Rattle.wf_lea.proofs.RowLaws.{row_stored}
+use Rattle.wf_lea.proofs.RowLaws.{row_stored, rows_stored}
 use Rattle.wf_lea.proofs.rows.Goals as goal
 
 pub loop-l-init : goal.loop-l-init
-unfolding first_rows rows
 loop-l-init c =
-    (omega arith, c.copied-m.type_inv.1.0.1, key_front c.args.key.now c.copied-m.result c.copied-m.ensures, refl)
+    (omega arith, c.copied-m.type_inv.1.0.1, key_front c.args.key.now c.copied-m.result c.copied-m.ensures, rows_none (row c.args.key.now) c.args.n c.requires.1)
 
 pub slice_bounds-row-end : goal.slice_bounds-row-end
 slice_bounds-row-end c =
@@ -34,10 +33,8 @@ loop-l-preserved c =
       omega arith,
       length-set m k _ ∙ v.1,
       take-set-le k m k _ (le_refl k) ∙ v.2,
-      row_stored key _ c.row.result _ l _ (omega arith) v.3 c.row.ensures message (omega arith),
+      row_stored key _ c.row.result _ c.args.n l _ (omega arith) v.3 c.row.ensures message (omega arith),
     )
 
 pub returns : goal.returns
-returns c =
-    let e : c.loop-l.l ≡ c.args.n = omega arith in
-    c.loop-l.invariant.3 ∙ ap (rows c.args.key.now) e
+returns c = rows_stored c.args.key.now c.loop-l.r-items c.args.n c.loop-l.l (omega arith) c.loop-l.invariant.3

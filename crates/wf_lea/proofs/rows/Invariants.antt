@@ -1,12 +1,9 @@
 -- `rows` meets its contract. The invariant: l rows are stored, and the buffer still begins with the key.
 use mathlib.Core.Path.{◌≡◌}
-use Prim.Native.Nat.{◌-◌, ◌≤◌}
+use Prim.Native.Nat.{◌≤◌}
 use lib.ListN.{length, take}
-use Rattle.wf_lea.specs.WfLea.{rows}
+use Rattle.wf_lea.proofs.RowLaws.{first_of}
 use Rattle.wf_lea.proofs.rows.Given as goal
 
 abbrev pub invariant-loop-l : goal.invariant-loop-l
-invariant-loop-l l = (l.l ≤ l.n) × (length l.m ≡ 64) × (take l.k l.m ≡ l.key) × (l.rows ≡ rows l.key l.l)
-
-abbrev pub decreases-loop-l : goal.decreases-loop-l
-decreases-loop-l l = l.n - l.l
+invariant-loop-l l = (l.l ≤ l.n) × (length l.m ≡ 64) × (take l.k l.m ≡ l.key) × (l.r-items ≡ first_of l.key l.n l.l)

@@ -1,13 +1,14 @@
--- `blocks::decipher_four` meets its contract. The invariant: of each block, what is left to undo, undone, is the whole undone.
-use mathlib.Core.Path.{◌≡◌}
-use Prim.Native.Nat.{◌*◌, ◌≤◌}
+-- `blocks::decipher_four` meets its contract. The invariants: of each block, what is left to undo, undone, is the whole undone;
+-- and four rounds of the first blocks are undone.
+use Rattle.std.proofs.Common.{◌≡◌, ◌*◌, ◌≤◌, ◌++◌, map, length, take, drop}
 use Rattle.cipher.specs.Lea.{backward}
+use Rattle.archive.proofs.OpenLaws.{four_undone}
 use Rattle.archive.proofs.blocks.decipher_four.Given as goal
 
 abbrev pub invariant-loop-q : goal.invariant-loop-q
-invariant-loop-q l = (l.q ≤ l.initial.q) × (l.initial.q ≤ 8) × (backward l.rows (4 * l.q) l.a ≡ backward l.rows (4 * l.initial.q) l.initial.a)
-    × (backward l.rows (4 * l.q) l.b ≡ backward l.rows (4 * l.initial.q) l.initial.b) × (backward l.rows (4 * l.q) l.c ≡ backward l.rows (4 * l.initial.q) l.initial.c)
-    × (backward l.rows (4 * l.q) l.d ≡ backward l.rows (4 * l.initial.q) l.initial.d)
+invariant-loop-q l =
+    (l.q ≤ l.initial.q) × (l.initial.q ≤ 8) × (length l.x ≡ 4) × (map (backward l.keys.rows (4 * l.q)) l.x ≡ map (backward l.keys.rows (4 * l.initial.q)) l.initial.x)
 
-abbrev pub decreases-loop-q : goal.decreases-loop-q
-decreases-loop-q l = l.q
+abbrev pub invariant-loop-y : goal.invariant-loop-y
+invariant-loop-y l =
+    l.y-items ≡ map (four_undone l.keys.rows l.q) (take l.y-index l.initial.y-items) ++ drop l.y-index l.initial.y-items

@@ -2,6 +2,7 @@
 use mathlib.Core.Path.{ap, ◌∙◌}
 use Prim.Native.Nat.{◌*◌}
 use native.Mathlib.Omega.{arith}
+use borrow.Author.Rules.{rules}
 use Rattle.lists.proofs.BlockLaws.{bytes_of_lem}
 use Rattle.lists.proofs.PartLaws.{part_end}
 use Rattle.cipher.specs.Lea.{forward}
@@ -25,13 +26,13 @@ pub last_words-last-requires : goal.last_words-last-requires
 last_words-last-requires c =
     let m = c.args.message.now in
     let k = c.subkeys.ensures in
-    (rw (part_end m (16 * c.blocks_before-n.result)) (left_most m _ c.blocks_before-n.ensures), rw k.0 (block_subkeys _ _).0, rw k.1 (block_subkeys _ _).1)
+    (rw (part_end m (16 * c.blocks_before-n.result)) (left_most m _ c.blocks_before-n.ensures), rw k.k1 (block_subkeys _ _).0, rw k.k2 (block_subkeys _ _).1)
 
 pub returns : goal.returns
 returns c =
     let m = c.args.message.now in
     let keys = c.subkeys.ensures in
-    let message = bytes_of_lem m (λ j h. omega (arith, c.shared_slice_known-1.given j)) in
-    let mac = c.encipher.ensures ∙ ap (forward c.args.rows (rounds c.args.size)) c.xor.ensures in
-    cmac_is c.args.rows (rounds c.args.size) m _ _ _ _ _ _ _ _ c.blocks_before-n.ensures keys.0 keys.1 (part_end m _) message
+    let message = bytes_of_lem m (λ j h. search rules) in
+    let mac = c.encipher.ensures ∙ ap (forward c.args.keys.now.rows (rounds c.args.keys.now.size)) c.xor.ensures in
+    cmac_is c.args.keys.now.rows (rounds c.args.keys.now.size) m _ _ _ _ _ _ _ _ c.blocks_before-n.ensures keys.k1 keys.k2 (part_end m _) message
     c.cbc_mac-x.ensures c.last_words-last.ensures mac c.bytes.ensures

@@ -1,15 +1,15 @@
 -- `padding::padding` meets its contract.
-use mathlib.Core.Path.{sym, ◌∙◌}
-use native.Mathlib.Omega.{arith}
-use borrow.Author.Rules.{rules}
+use Rattle.std.proofs.Common.{sym, ◌∙◌, rules, arith}
 use Rattle.archive.proofs.PaddingLaws.{padding_low, padding_high, padding_all, padding_not}
+use Rattle.archive.proofs.padding.padding.Goals.{then-v-eq0-via-then-v-eq0, then-v-eq0-via-else-v-eq0+then-v-gt-BLOCK}
 use Rattle.archive.proofs.padding.padding.Goals as goal
 
 pub returns-then-v-eq0 : goal.returns-then-v-eq0
-returns-then-v-eq0 c = sym (padding_low c.args.b (search rules) (sym c.wide-v.ensures.0 ∙ c.if-v-eq0.true))
-
-pub returns-then-v-gt-BLOCK : goal.returns-then-v-gt-BLOCK
-returns-then-v-gt-BLOCK c = sym (padding_high c.args.b (search rules) (omega (arith, c.wide-v.ensures.0)))
+returns-then-v-eq0 c =
+    elim c.then-v-eq0.branch [
+      | then-v-eq0-via-then-v-eq0 w ↦ sym (padding_low c.args.b (search rules) (sym c.wide-v.ensures.0 ∙ w.if-v-eq0.true))
+      | then-v-eq0-via-else-v-eq0+then-v-gt-BLOCK w ↦ sym (padding_high c.args.b (search rules) (omega (arith, c.wide-v.ensures.0, w.if-v-gt-BLOCK.true)))
+    ]
 
 pub returns-then-ends_with : goal.returns-then-ends_with
 returns-then-ends_with c =

@@ -8,7 +8,7 @@ use lib.Seq.{length-take-le}
 use Rattle.lists.proofs.PartLaws.{part_end}
 use Rattle.cipher.specs.KeySize.{rounds}
 use Rattle.table_maker.specs.Made.{three_keys}
-use Rattle.book.proofs.BuildLaws.{message_permutes}
+use Rattle.table_maker.proofs.ChainLaws.{message_permutes}
 use Rattle.book.proofs.WholeLaws.{set_in, start_length_lem, groups_length, groups_room, after_length, rounds_room, all_joined, all_length, rounds_length, after_first, book_is}
 use Rattle.book.proofs.build.fill.Goals as goal
 
@@ -16,20 +16,20 @@ pub start-requires : goal.start-requires
 start-requires c =
     let ch = c.args.chain.now in
     let q = c.rounds.result in
-    let s = set_in c.args.size ch _ q c.requires.0 (le_of_eq c.rounds.ensures) (part_end ch (512 * (q + 1))) in
+    let s = set_in c.args.keys.now.size ch _ q c.requires.0 (le_of_eq c.rounds.ensures) (part_end ch (512 * (q + 1))) in
     (s.0, s.1, length-take-le 16 c.args.out.now (omega arith))
 
 pub groups-requires : goal.groups-requires
 groups-requires c =
     let ch = c.args.chain.now in
     let q = c.rounds.result in
-    let s = set_in c.args.size ch _ q c.requires.0 (le_of_eq c.rounds.ensures) (part_end ch (512 * (q + 1))) in (
+    let s = set_in c.args.keys.now.size ch _ q c.requires.0 (le_of_eq c.rounds.ensures) (part_end ch (512 * (q + 1))) in (
       s.0,
       s.1,
-      message_permutes c.args.size ch c.requires.0,
+      message_permutes c.args.keys.now.size ch c.requires.0,
       omega (arith, c.requires.0.size),
       after_first ch (omega (arith, c.requires.0.size)),
-      groups_room c.start.new.out c.args.out.now _ (rounds c.args.size) (start_length_lem _ _ c.start.ensures) c.requires.1
+      groups_room c.start.new.out c.args.out.now _ (rounds c.args.keys.now.size) (start_length_lem _ _ c.start.ensures) c.requires.1
           c.requires.1,
     )
 
@@ -38,7 +38,7 @@ slice_bounds-round_parts-end c =
     let n = c.requires.1 in
     let s = start_length_lem _ _ c.start.ensures in
     let g = groups_length _ _ _ _ (three_keys _ _) c.groups.ensures in
-    let m = after_length c.start.new.out c.args.out.now (length c.args.out.now) (rounds c.args.size) s c.requires.1 n
+    let m = after_length c.start.new.out c.args.out.now (length c.args.out.now) (rounds c.args.keys.now.size) s c.requires.1 n
     c.groups.new.out g in
     omega (arith, n, m)
 
@@ -48,24 +48,24 @@ round_parts-requires c =
     let s = start_length_lem _ _ c.start.ensures in
     let g = groups_length _ _ _ _ (three_keys _ _) c.groups.ensures in (
       c.requires.0,
-      rounds_room c.start.new.out c.args.out.now (length c.args.out.now) (rounds c.args.size) s c.requires.1 n
+      rounds_room c.start.new.out c.args.out.now (length c.args.out.now) (rounds c.args.keys.now.size) s c.requires.1 n
           c.groups.new.out g,
     )
 
 pub shape_of-out : goal.shape_of-out
 shape_of-out c =
-    all_length c.start.new.out c.args.out.now (length c.args.out.now) (rounds c.args.size)
+    all_length c.start.new.out c.args.out.now (length c.args.out.now) (rounds c.args.keys.now.size)
     (start_length_lem _ _ c.start.ensures) c.requires.1 c.requires.1 c.groups.new.out
     (groups_length _ _ _ _ (three_keys _ _) c.groups.ensures)
-    c.round_parts.new.out (rounds_length _ (rounds c.args.size) _ _ c.round_parts.ensures)
+    c.round_parts.new.out (rounds_length _ (rounds c.args.keys.now.size) _ _ c.round_parts.ensures)
 
 pub returns : goal.returns
 returns c =
     let ch = c.args.chain.now in
     let q = c.rounds.result in
-    all_joined c.start.new.out c.args.out.now (length c.args.out.now) (rounds c.args.size)
+    all_joined c.start.new.out c.args.out.now (length c.args.out.now) (rounds c.args.keys.now.size)
     (start_length_lem _ _ c.start.ensures) c.requires.1 c.requires.1 c.groups.new.out
     (groups_length _ _ _ _ (three_keys _ _) c.groups.ensures)
     c.round_parts.new.out
-    ∙ book_is (rounds c.args.size) q _ ch _ _ _ _ _ _ _ c.rounds.ensures (part_end ch (512 * (q + 1))) (part_end ch 512)
-    c.subkeys-keys.ensures.0 c.subkeys-keys.ensures.1 c.start.ensures c.groups.ensures c.round_parts.ensures
+    ∙ book_is (rounds c.args.keys.now.size) q _ ch _ _ _ _ _ _ _ c.rounds.ensures (part_end ch (512 * (q + 1))) (part_end ch 512)
+    c.subkeys.ensures.k1 c.subkeys.ensures.k2 c.start.ensures c.groups.ensures c.round_parts.ensures

@@ -1,41 +1,21 @@
--- `chain::all_masks_hold` meets its contract. The invariant: the masks of the first l rounds hold.
-use Rattle.std.proofs.Common.{◌≡◌, ℕ, ◌+◌, ◌*◌, List, sym, refl, ap, ◌∙◌, arith, length-drop}
-use Rattle.lists.specs.Every.{every}
-use Rattle.lists.proofs.EveryLaws.{every_not}
+-- `chain::all_masks_hold` meets its contract.
+use Rattle.std.proofs.Common.{ℕ, ◌+◌, ◌-◌, ◌*◌, List, length, take, drop, refl, ap, ◌∙◌, rules, arith}
+use borrow.Author.Tests.{tests}
+use Rattle.std.proofs.lemmas.Iterator.{YieldsList-from_range}
+use Rattle.std.proofs.lemmas.Iterator.Search.{all_from_yields_List}
+use Rattle.lists.proofs.EveryLaws.{every_ext}
 use Rattle.lists.proofs.PartLaws.{part_end}
-use Rattle.cipher.specs.Chain.{masks_hold, mask_rule_holds, round_bytes}
-use Rattle.cipher.proofs.CheckLaws.{every_next}
+use Rattle.lists.proofs.AllLaws.{all_below}
+use Rattle.cipher.specs.Chain as C
 use Rattle.cipher.proofs.chain.all_masks_hold.Goals as goal
 
-pub loop-l-init : goal.loop-l-init
-unfolding every
-loop-l-init c = (omega arith, refl)
-
-pub masks_hold-requires : goal.masks_hold-requires
-masks_hold-requires c =
-    let a = c.args in
-    rw (part_end a.chain.now (512 * (a.r + 2) + 408 * c.loop-l.l), length-drop) (omega arith)
-
-pub returns-then-not-masks_hold : goal.returns-then-not-masks_hold
-unfolding mask_rule_holds
-returns-then-not-masks_hold c =
-    let a = c.args in
-    sym (every_not a.r _ c.loop-l.l (omega arith)
-    (ap (λ (s : List ℕ). masks_hold s) (sym (part_end a.chain.now (512 * (a.r + 2) + 408 * c.loop-l.l)))
-    ∙ sym c.masks_hold.ensures ∙ c.if-not-masks_hold.true))
-
-pub loop-l-preserved : goal.loop-l-preserved
-loop-l-preserved c =
-    let a = c.args in (
-      omega arith,
-      every_next c.loop-l.l _ c.loop-l.invariant.1
-          (ap (λ (s : List ℕ). masks_hold s) (sym (part_end a.chain.now (512 * (a.r + 2) + 408 * c.loop-l.l)))
-          ∙ sym c.masks_hold.ensures ∙ c.if-not-masks_hold.false),
-    )
-
 pub returns : goal.returns
-unfolding mask_rule_holds
+unfolding C.mask_rule_holds
 returns c =
-    let a = c.args in
-    let e : c.loop-l.l ≡ a.r = omega arith in
-    sym c.loop-l.invariant.1 ∙ ap (λ (n : ℕ). every n (λ l. masks_hold (round_bytes a.r a.chain.now l))) e
+    let ch = c.args.chain.now in
+    let r = c.args.r in
+    let at = λ (l : ℕ). 512 * (r + 2) + 408 * l in
+    all_from_yields_List (λ l. C.masks_hold (take (length ch - at l) (drop (at l) ch))) _ _ c.all.result c.all.ensures.ran
+    (YieldsList-from_range 0 r r refl (omega arith)) (λ x b q k. search (rules, tests))
+    ∙ all_below r _
+    ∙ every_ext r _ _ (λ l h. ap (λ (s : List ℕ). C.masks_hold s) (part_end ch (at l)))

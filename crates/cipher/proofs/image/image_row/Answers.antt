@@ -14,8 +14,8 @@ pub loop-l-init : goal.loop-l-init
 unfolding tab
 loop-l-init c = (omega arith, refl, refl)
 
-pub overflow_add-out-in-loop-l : goal.overflow_add-out-in-loop-l
-overflow_add-out-in-loop-l c =
+pub overflow_add-code-in-loop-l : goal.overflow_add-code-in-loop-l
+overflow_add-code-in-loop-l c =
     omega (arith, c.requires.3 (32 * c.args.k + c.loop-l.l) (omega arith), c.requires.3 (32 * c.args.k + 16 + c.args.h) (omega arith))
 
 pub loop-l-preserved : goal.loop-l-preserved

@@ -18,9 +18,6 @@ loop-v-preserved c = (
   tab_turn (λ i. i) _ _ _ _ c.loop-v.invariant.2 refl (omega (arith, c.requires)),
 )
 
-pub shape_of-out : goal.shape_of-out
-shape_of-out c = c.loop-v.invariant.1
-
 pub returns : goal.returns
 unfolding unshuffled
 returns c = tab_full (λ i. i) _ _ 16 c.loop-v.v c.loop-v.invariant.2 (omega arith) c.requires

@@ -2,16 +2,12 @@
 use mathlib.Core.Path.{◌≡◌, refl, ap, ◌∙◌}
 use mathlib.Core.List.{◌++◌}
 use Prim.Native.Nat.{ℕ, ◌+◌, ◌-◌, ◌%◌}
-use native.Mathlib.Nat.{mod-le}
 use native.Mathlib.Omega.{arith}
 use lib.ListN.{drop, length-set}
 use Rattle.lists.specs.Tabulation.{tab}
 use Rattle.lists.proofs.PartLaws.{tab_turn}
-use Rattle.coding_maker.proofs.NumberLaws.{filled_at}
+use Rattle.coding_maker.proofs.NumberLaws.{filled_at, filled, row_is}
 use Rattle.coding_maker.proofs.numbers.fill_row.Goals as goal
-
-pub overflow_sub-limit : goal.overflow_sub-limit
-overflow_sub-limit c = mod-le 256 _
 
 pub loop-b-init : goal.loop-b-init
 unfolding tab
@@ -21,21 +17,21 @@ pub remainder-r-requires : goal.remainder-r-requires
 remainder-r-requires c = (
   c.requires.0,
   omega arith,
-  c.loop-b.invariant.1 ∙ c.requires.1,
-  λ i h. filled_at (λ n. n % (c.args.k + 1)) c.args.row.now c.loop-b.row c.loop-b.b i c.loop-b.invariant.2 h,
+  c.loop-b.invariant.1 ∙ c.fill.ensures.len ∙ c.requires.1,
+  λ i h. filled_at (λ n. n % (c.args.k + 1)) _ c.loop-b.row c.loop-b.b i c.loop-b.invariant.2 h,
 )
 
 pub loop-b-preserved : goal.loop-b-preserved
 loop-b-preserved c = (
   omega arith,
   simp length-set c.loop-b.invariant.1,
-  tab_turn (λ n. n % (c.args.k + 1)) _ _ _ _ c.loop-b.invariant.2 c.remainder-r.ensures (omega (arith, c.requires.1)),
+  tab_turn (λ n. n % (c.args.k + 1)) _ _ _ _ c.loop-b.invariant.2 c.remainder-r.ensures (omega (arith, c.fill.ensures.len, c.requires.1)),
 )
-
-pub shape_of-row : goal.shape_of-row
-shape_of-row c = c.loop-b.invariant.1
 
 pub returns : goal.returns
 returns c =
-    let d : c.loop-b.b ≡ 256 - 256 % (c.args.k + 1) = omega arith in
-    c.loop-b.invariant.2 ∙ ap (λ (n : ℕ). tab n (λ i. i % (c.args.k + 1)) ++ drop n c.args.row.now) d
+    let k = c.args.k in
+    let d : c.loop-b.b ≡ 256 - 256 % (k + 1) = omega arith in
+    c.loop-b.invariant.2
+    ∙ ap (λ (n : ℕ). tab n (λ i. i % (k + 1)) ++ drop n c.fill.new.self) d
+    ∙ row_is k _ (c.fill.ensures.len ∙ c.requires.1) (filled _ _ c.requires.1 c.fill.ensures.clones_before_last (c.fill.ensures.last (omega (arith, c.requires.1))))

@@ -2,11 +2,8 @@
 use mathlib.Core.Path.{◌∙◌}
 use Prim.Native.Nat.{◌+◌, ◌-◌}
 use native.Mathlib.Omega.{arith}
-use Rattle.coding_maker.proofs.NumberLaws.{remainder_first, remainder_again}
+use Rattle.coding_maker.proofs.NumberLaws.{remainder_again}
 use Rattle.coding_maker.proofs.numbers.remainder.Goals as goal
-
-pub returns-then-b-k : goal.returns-then-b-k
-returns-then-b-k c = let a = c.args in remainder_first a.k a.b (omega (arith, c.if-b-k.true))
 
 pub returns : goal.returns
 returns c =

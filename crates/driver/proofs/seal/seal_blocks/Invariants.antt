@@ -1,8 +1,5 @@
 -- `seal::seal_blocks` meets its contract. The invariant: k blocks are sealed, and x is the last of them.
-use mathlib.Core.Path.{◌≡◌}
-use mathlib.Core.List.{◌++◌}
-use Prim.Native.Nat.{◌-◌, ◌*◌, ◌≤◌}
-use lib.ListN.{length, drop}
+use Rattle.std.proofs.Common.{◌≡◌, ◌*◌, ◌++◌, length, drop}
 use Rattle.lists.specs.Blocks.{cut}
 use Rattle.driver.specs.Driver.{pass}
 use Rattle.driver.proofs.SealLaws.{passed_last, done}
@@ -10,7 +7,4 @@ use Rattle.driver.proofs.seal.seal_blocks.Given as goal
 
 abbrev pub invariant-loop-k : goal.invariant-loop-k
 invariant-loop-k l =
-    (l.k ≤ l.n) × (l.x ≡ passed_last (pass l.body 0) l.initial.x (cut l.k l.coded)) × (l.out ≡ done l.body l.initial.x l.coded l.initial.out l.k ++ drop (16 * l.k) l.initial.out) × (length l.out ≡ length l.initial.out)
-
-abbrev pub decreases-loop-k : goal.decreases-loop-k
-decreases-loop-k l = l.n - l.k
+    (l.x ≡ passed_last (pass l.body 0) l.initial.x (cut l.k l.coded)) × (l.out ≡ done l.body l.initial.x l.coded l.initial.out l.k ++ drop (16 * l.k) l.initial.out) × (length l.out ≡ length l.initial.out)

@@ -1,89 +1,46 @@
 -- `read::all_records` meets its contract. The invariant: the walk has come to record k without a fault, and what is told of the records
 -- before it is filled in.
-use mathlib.Core.Path.{◌∙◌}
-use Prim.Native.Nat.{◌+◌, ◌≤◌, ◌<◌}
+use mathlib.Core.Path.{ap, ◌∙◌}
+use Prim.Native.Nat.{◌+◌}
 use native.Mathlib.Omega.{arith}
-use lib.ListN.{length}
+use Rattle.std.proofs.lemmas.List.{map-set}
+use Rattle.cipher.proofs.PassedLaws.{passed}
+use Rattle.inkfile.specs.ReadingSteps.{records_told}
 use Rattle.inkfile.specs.Reading.{kind_at, length_at, start_of}
 use Rattle.inkfile.proofs.RecordsLaws as L
 use Rattle.inkfile.proofs.read.all_records.Goals as goal
 
-pub loop-seen-init : goal.loop-seen-init
-loop-seen-init c =
+pub loop-all-init : goal.loop-all-init
+loop-all-init c =
     let file = c.args.file.now in
     (L.begins file, L.none_yet (λ i. kind_at file (start_of file i)), L.none_yet (λ i. start_of file i + 6), L.none_yet (λ i. length_at file (start_of file i)))
 
-pub record_at-seen-requires : goal.record_at-seen-requires
-record_at-seen-requires c = c.loop-seen.invariant.0.room
+pub returns-in_err-head : goal.returns-in_err-head
+returns-in_err-head c =
+    ap records_told (passed c.from_residual.ensures.1) ∙ L.records_refused _ _ _ c.loop-all.invariant.0 _ c.goes_on.ensures c.loop-all-test.true _ c.in_err-head.ensures
 
-pub returns-in-Refused : goal.returns-in-Refused
-returns-in-Refused c =
-    let v = c.loop-seen.invariant in
-    c.refused.ensures
-    ∙ L.records_refused _ _ _ v.0 _ c.goes_on.ensures c.loop-seen-test.true _ _ _ c.record_at-seen.ensures _ c.in-Refused.is
-
-pub bounds-kinds-k : goal.bounds-kinds-k
-bounds-kinds-k c =
-    let few : c.loop-seen.k < 8 =
-    let v = c.loop-seen.invariant in
-    L.turn_few _ _ _ v.0 _ c.goes_on.ensures c.loop-seen-test.true _ _ _ c.record_at-seen.ensures c.in_default.is in
-    few
-
-pub overflow_add-offsets : goal.overflow_add-offsets
-overflow_add-offsets c =
-    let room : c.loop-seen.at + 6 + c.record_at-seen.result.length ≤ length c.args.file.now =
-    let v = c.loop-seen.invariant in
-    L.turn_room _ _ _ v.0 _ c.goes_on.ensures c.loop-seen-test.true _ _ _ c.record_at-seen.ensures c.in_default.is in
-    omega (arith, room, c.well_formed)
-
-pub bounds-offsets-k : goal.bounds-offsets-k
-bounds-offsets-k c =
-    let few : c.loop-seen.k < 8 =
-    let v = c.loop-seen.invariant in
-    L.turn_few _ _ _ v.0 _ c.goes_on.ensures c.loop-seen-test.true _ _ _ c.record_at-seen.ensures c.in_default.is in
-    few
-
-pub bounds-lengths-k : goal.bounds-lengths-k
-bounds-lengths-k c =
-    let few : c.loop-seen.k < 8 =
-    let v = c.loop-seen.invariant in
-    L.turn_few _ _ _ v.0 _ c.goes_on.ensures c.loop-seen-test.true _ _ _ c.record_at-seen.ensures c.in_default.is in
-    few
+pub bounds-all-count : goal.bounds-all-count
+bounds-all-count c =
+    let turn = L.turn _ _ _ c.loop-all.invariant.0 _ c.goes_on.ensures c.loop-all-test.true _ _ c.in_ok-head.ensures in
+    turn.few
 
 pub overflow_add-at : goal.overflow_add-at
 overflow_add-at c =
-    let room : c.loop-seen.at + 6 + c.record_at-seen.result.length ≤ length c.args.file.now =
-    let v = c.loop-seen.invariant in
-    L.turn_room _ _ _ v.0 _ c.goes_on.ensures c.loop-seen-test.true _ _ _ c.record_at-seen.ensures c.in_default.is in
-    omega (arith, room, c.well_formed)
+    let turn = L.turn _ _ _ c.loop-all.invariant.0 _ c.goes_on.ensures c.loop-all-test.true _ _ c.in_ok-head.ensures in
+    omega (arith, turn.room, c.well_formed)
 
-pub overflow_add-at-in-loop-seen : goal.overflow_add-at-in-loop-seen
-overflow_add-at-in-loop-seen c =
-    let room : c.loop-seen.at + 6 + c.record_at-seen.result.length ≤ length c.args.file.now =
-    let v = c.loop-seen.invariant in
-    L.turn_room _ _ _ v.0 _ c.goes_on.ensures c.loop-seen-test.true _ _ _ c.record_at-seen.ensures c.in_default.is in
-    omega (arith, room, c.well_formed)
+pub loop-all-smaller : goal.loop-all-smaller
+loop-all-smaller c =
+    let turn = L.turn _ _ _ c.loop-all.invariant.0 _ c.goes_on.ensures c.loop-all-test.true _ _ c.in_ok-head.ensures in
+    omega (arith, turn.few)
 
-pub loop-seen-smaller : goal.loop-seen-smaller
-loop-seen-smaller c =
-    let few : c.loop-seen.k < 8 =
-    let v = c.loop-seen.invariant in
-    L.turn_few _ _ _ v.0 _ c.goes_on.ensures c.loop-seen-test.true _ _ _ c.record_at-seen.ensures c.in_default.is in
-    omega (arith, few)
-
-pub loop-seen-preserved : goal.loop-seen-preserved
-loop-seen-preserved c =
-    let v = c.loop-seen.invariant in (
-      L.turn_behind _ _ _ v.0 _ c.goes_on.ensures c.loop-seen-test.true _ _ _ c.record_at-seen.ensures c.in_default.is,
-      L.turn_kinds _ _ _ v.0 _ c.goes_on.ensures c.loop-seen-test.true _ _ _ c.record_at-seen.ensures c.in_default.is _ v.1,
-      L.turn_offsets _ _ _ v.0 _ c.goes_on.ensures c.loop-seen-test.true _ _ _ c.record_at-seen.ensures c.in_default.is _ v.2,
-      L.turn_lengths _ _ _ v.0 _ c.goes_on.ensures c.loop-seen-test.true _ _ _ c.record_at-seen.ensures c.in_default.is _ v.3,
-    )
+pub loop-all-preserved : goal.loop-all-preserved
+loop-all-preserved c =
+    let v = c.loop-all.invariant in
+    let turn = L.turn _ _ _ v.0 _ c.goes_on.ensures c.loop-all-test.true _ _ c.in_ok-head.ensures in
+    (turn.behind, map-set _ _ _ _ ∙ turn.kinds _ v.1, map-set _ _ _ _ ∙ turn.offsets _ v.2, map-set _ _ _ _ ∙ turn.lengths _ v.3)
 
 pub returns : goal.returns
 returns c =
-    let v = c.loop-seen.invariant in
-    L.records_done _ _ _ v.0 (L.records_ended _ _ _ v.0 _ c.goes_on.ensures c.loop-seen-test.false) _ _ _ v.1 v.2 v.3
-
-pub overflow_sub-file : goal.overflow_sub-file
-overflow_sub-file c = c.loop-seen.invariant.0.room
+    let v = c.loop-all.invariant in
+    L.records_done _ _ _ v.0 (L.records_ended _ _ _ v.0 _ c.goes_on.ensures c.loop-all-test.false) _ _ _ v.1 v.2 v.3

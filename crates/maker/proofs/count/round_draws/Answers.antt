@@ -1,15 +1,13 @@
 -- `count::round_draws` meets its contract.
-use native.Mathlib.Omega.{arith}
+use Rattle.std.proofs.Common.{ap, ◌∙◌, arith}
+use Rattle.coding_maker.specs.Source.{past}
+use Rattle.coding_maker.proofs.SourceLaws.{near_after}
 use Rattle.maker.specs.MadeChain.{middles_draw}
-use Rattle.coding_maker.proofs.DrawTurns.{near}
-use Rattle.maker.proofs.ChainTurns.{within_middles, round_draws_in}
+use Rattle.maker.proofs.ChainTurns.{within_middles, round_past}
 use Rattle.maker.proofs.count.round_draws.Goals as goal
 
-pub overflow_add-result : goal.overflow_add-result
-overflow_add-result c =
-    omega (arith, c.middles_draw.ensures, c.requires.1, near 360 middles_draw within_middles c.args.random.now c.args.start)
+pub skip-requires : goal.skip-requires
+skip-requires c = (omega arith, omega (arith, near_after 360 100000 middles_draw within_middles _ _ c.middles_draw.ensures c.requires))
 
 pub returns : goal.returns
-returns c =
-    let a = c.args in
-    round_draws_in a.random.now a.start c.middles_draw.result c.middles_draw.ensures
+returns c = c.skip.ensures ∙ ap (past (λ t. 24)) c.middles_draw.ensures ∙ round_past c.args.source.now

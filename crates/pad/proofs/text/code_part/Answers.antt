@@ -1,38 +1,33 @@
--- `text::code_part` meets its contract. The invariant: i bytes are written from place `from` on, and the rest is as it was.
-use mathlib.Core.Path.{refl, ap}
-use Prim.Native.Nat.{◌+◌, ◌%◌}
-use native.Mathlib.Omega.{arith}
-use lib.ListN.{length, get_or, length-set}
+-- `text::code_part` meets its contract. The invariant: i bytes are written, and the rest is as it was.
+use Rattle.std.proofs.Common.{◌≡◌, ◌+◌, ◌-◌, ◌%◌, ◌++◌, List, ℕ, length, get_or, take, drop, refl, ap, ap₂, ◌∙◌, arith, length-set}
+use borrow.Rule.Slice.PartMut.{Post-is}
+use Rattle.lists.specs.Tabulation.{tab}
+use Rattle.lists.proofs.PartLaws.{tab_turn, tab_full, length_part}
 use Rattle.cipher.specs.Images.{image_at}
 use Rattle.pad.specs.CodedParts.{coded_part}
-use Rattle.pad.proofs.CodedPartLaws.{part_turn, part_full, part_none}
 use Rattle.pad.proofs.text.code_part.Goals as goal
 
 pub loop-i-init : goal.loop-i-init
+unfolding tab
 loop-i-init c =
     let a = c.args in
-    (omega arith, refl, refl, part_none (λ k. image_at a.images.now ((a.from + k) % 16) (get_or a.part.now k 0)) a.out.now a.from)
-
-pub bounds-images-from : goal.bounds-images-from
-bounds-images-from c = omega (arith, c.wide.ensures.1)
+    let part : length (take (a.from + length a.part.now - a.from) (drop a.from a.out.now)) ≡ length a.part.now =
+    length_part a.out.now a.from (length a.part.now) c.requires.1 ∙ (omega arith) in
+    (part, refl)
 
 pub loop-i-preserved : goal.loop-i-preserved
 loop-i-preserved c =
     let a = c.args in (
-      omega arith,
-      c.loop-i.invariant.1,
-      simp length-set c.loop-i.invariant.2,
-      part_turn (λ k. image_at a.images.now ((a.from + k) % 16) (get_or a.part.now k 0)) a.out.now c.loop-i.out a.from c.loop-i.i
-          (length a.part.now) c.requires.1 c.loop-i.invariant.3 _
+      simp length-set c.loop-i.invariant.0,
+      tab_turn (λ k. image_at a.images.now ((a.from + k) % 16) (get_or a.part.now k 0)) _ _ _ _ c.loop-i.invariant.1
           (ap (image_at a.images.now ((a.from + c.loop-i.i) % 16)) c.wide.ensures.0) (omega arith),
     )
-
-pub shape_of-out : goal.shape_of-out
-shape_of-out c = c.loop-i.invariant.2
 
 pub returns : goal.returns
 unfolding coded_part
 returns c =
     let a = c.args in
-    part_full (λ k. image_at a.images.now ((a.from + k) % 16) (get_or a.part.now k 0)) a.out.now c.loop-i.out a.from c.loop-i.i
-    (length a.part.now) c.requires.1 c.loop-i.invariant.3 (omega arith)
+    ap (λ (l : List ℕ). take a.from a.out.now ++ l)
+    (ap₂ {C = List ℕ} (λ (x y : List ℕ). x ++ y)
+    (tab_full _ _ _ (length a.part.now) c.loop-i.i c.loop-i.invariant.1 (omega arith) (omega arith))
+    (Post-is a.from (a.from + length a.part.now) a.out.now (omega arith)))

@@ -1,23 +1,18 @@
--- `blocks::rounds` meets its contract. The invariant: the blocks went through l rounds.
-use native.Mathlib.Omega.{arith}
-use Rattle.reader.proofs.BlockLoops.{tables_room, rounded_none, rounded_more, rounded_all}
+-- `blocks::rounds` meets its contract. The invariant: the blocks went through as many rounds as there were tables.
+use Rattle.std.proofs.Common.{arith}
+use Rattle.table_reader.proofs.ChunkLaws.{lent_count}
+use Rattle.reader.proofs.BlockLoops.{rounded_none, rounded_more, rounded_all}
 use Rattle.reader.proofs.blocks.rounds.Goals as goal
 
-pub loop-l-init : goal.loop-l-init
-loop-l-init c = (omega arith, rounded_none _ _ _ c.requires.3)
+pub loop-t-init : goal.loop-t-init
+loop-t-init c = rounded_none _ _ _ c.requires.3
 
-pub round_of-requires : goal.round_of-requires
-round_of-requires c =
-    (tables_room c.args.book.now c.args.r c.loop-l.l c.requires.1 (omega arith), c.requires.2, rw c.loop-l.invariant.1.len c.requires.3)
-
-pub loop-l-preserved : goal.loop-l-preserved
-loop-l-preserved c =
+pub loop-t-preserved : goal.loop-t-preserved
+loop-t-preserved c =
     let o = c.round_of in
-    (omega arith, rounded_more _ _ _ c.requires.3 _ _ _ o.auto.out c.loop-l.invariant.1 o.ensures)
-
-pub shape_of-out : goal.shape_of-out
-shape_of-out c = c.loop-l.invariant.1.len
+    rounded_more _ _ _ c.requires.3 _ _ _ _ _ _ c.as_chunks.ensures.front c.loop-t-test.true o.auto.out c.loop-t.invariant o.ensures
 
 pub returns : goal.returns
 returns c =
-    rounded_all _ _ _ c.requires.3 c.loop-l.l c.args.r _ (omega arith) c.loop-l.invariant.1
+    rounded_all _ _ _ c.requires.3 c.loop-t.t-index c.args.r _
+    (omega (arith, lent_count 18432 c.args.r _ _ _ c.as_chunks.ensures.front (omega (arith, c.requires.1)))) c.loop-t.invariant

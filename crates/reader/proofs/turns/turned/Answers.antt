@@ -1,17 +1,13 @@
 -- `turns::turned` meets its contract. The invariant: m bytes of each word are turned.
-use mathlib.Core.Path.{refl}
 use native.Mathlib.Omega.{arith}
 use Rattle.table_reader.proofs.ReadingLaws.{three}
-use Rattle.reader.proofs.TurnLaws.{turned_first, turned_step, turned_full}
+use Rattle.reader.proofs.TurnLaws.{turned_step, turned_full}
 use Rattle.reader.proofs.turns.turned.Goals as goal
-
-pub loop-m-init : goal.loop-m-init
-loop-m-init c = (omega arith, turned_first _ _ _ refl)
 
 pub loop-m-preserved : goal.loop-m-preserved
 unfolding three
 loop-m-preserved c =
-    (omega arith, turned_step _ _ _ _ _ _ _ _ (omega arith) c.loop-m.invariant.1 c.turned_byte.ensures c.turned_byte-in-loop-m.ensures c.turned_byte-in-loop-m-2.ensures)
+    turned_step _ _ _ _ _ _ _ _ (omega arith) c.loop-m.invariant c.turned_byte.ensures c.turned_byte-in-loop-m.ensures c.turned_byte-in-loop-m-2.ensures
 
 pub returns : goal.returns
-returns c = turned_full _ _ _ _ _ (omega arith) c.loop-m.invariant.1
+returns c = turned_full _ _ _ _ _ (omega arith) c.loop-m.invariant

@@ -14,17 +14,17 @@ use Rattle.reading_book.proofs.build.fill.Goals as goal
 pub round_parts-requires : goal.round_parts-requires
 round_parts-requires c =
     let q = c.rounds-r.ensures in
-    (c.requires.0, room_length (18432 * c.rounds-r.result) (rounds c.args.size * 18432) c.args.out.now (omega arith) (omega (arith, c.requires.1)))
+    (c.requires.0, room_length (18432 * c.rounds-r.result) (rounds c.args.keys.now.size * 18432) c.args.out.now (omega arith) (omega (arith, c.requires.1)))
 
 pub group-requires : goal.group-requires
 group-requires c =
     let ch = c.args.chain.now in
     let q = c.rounds-r.result in
     let h = c.rounds-r.ensures in
-    let s = set_in c.args.size ch _ q c.requires.0 (le_of_eq h) (part_end ch (512 * (q + 1))) in
-    let u = set_in c.args.size ch _ 0 c.requires.0 zero-le (part_end ch 512) in
+    let s = set_in c.args.keys.now.size ch _ q c.requires.0 (le_of_eq h) (part_end ch (512 * (q + 1))) in
+    let u = set_in c.args.keys.now.size ch _ 0 c.requires.0 zero-le (part_end ch 512) in
     let room : length c.args.out.now ≡ 18432 * q + 8192 = omega (arith, c.requires.1) in
-    let x = rounds_back_length _ (rounds c.args.size) (18432 * q) _ _ (omega arith) c.round_parts.ensures in (
+    let x = rounds_back_length _ (rounds c.args.keys.now.size) (18432 * q) _ _ (omega arith) c.round_parts.ensures in (
       s.0,
       s.1,
       u.0,
@@ -38,7 +38,7 @@ shape_of-out c =
     let q = c.rounds-r.result in
     let h = c.rounds-r.ensures in
     let room : length c.args.out.now ≡ 18432 * q + 8192 = omega (arith, c.requires.1) in
-    let x = rounds_back_length _ (rounds c.args.size) (18432 * q) _ _ (omega arith) c.round_parts.ensures in
+    let x = rounds_back_length _ (rounds c.args.keys.now.size) (18432 * q) _ _ (omega arith) c.round_parts.ensures in
     both_length c.round_parts.new.out c.group.new.out c.args.out.now (18432 * q) 8192 room x
     (group_length_lem _ _ _ _ c.group.ensures)
 
@@ -48,6 +48,6 @@ returns c =
     let q = c.rounds-r.result in
     let h = c.rounds-r.ensures in
     let room : length c.args.out.now ≡ 18432 * q + 8192 = omega (arith, c.requires.1) in
-    let x = rounds_back_length _ (rounds c.args.size) (18432 * q) _ _ (omega arith) c.round_parts.ensures in
+    let x = rounds_back_length _ (rounds c.args.keys.now.size) (18432 * q) _ _ (omega arith) c.round_parts.ensures in
     rest_joined c.round_parts.new.out c.group.new.out c.args.out.now (18432 * q) 8192 room x
-    ∙ reading_book_is (rounds c.args.size) q _ ch _ _ _ _ h (part_end ch (512 * (q + 1))) (part_end ch 512) c.round_parts.ensures c.group.ensures
+    ∙ reading_book_is (rounds c.args.keys.now.size) q _ ch _ _ _ _ h (part_end ch (512 * (q + 1))) (part_end ch 512) c.round_parts.ensures c.group.ensures

@@ -1,29 +1,16 @@
 -- `rounds::round_at` meets its contract.
-use mathlib.Core.Path.{ap, ◌∙◌}
-use Prim.Native.Nat.{◌+◌, ◌*◌}
-use native.Mathlib.Omega.{arith}
-use Rattle.lists.proofs.PartLaws.{part_end}
-use Rattle.cipher.specs.Tables.{RoundCodings}
-use Rattle.reading.specs.Book.{reading_part}
-use Rattle.book.proofs.BuildLaws.{round_ready, codings_at}
+use Rattle.std.proofs.Common.{ap₂, ◌∙◌}
+use Rattle.cipher.specs.KeySize.{rounds}
+use Rattle.reading.specs.Book.{reading_part, reading_book_round}
+use Rattle.reading_book.proofs.ReadingWhole.{row_back_is}
 use Rattle.reading_book.proofs.rounds.round_at.Goals as goal
 
-pub round_tables-requires : goal.round_tables-requires
-round_tables-requires c =
-    let ch = c.args.chain.now in
-    let l = c.args.l in
-    let n = 512 * (c.rounds-r.result + 2) + 408 * l in (
-      round_ready c.args.size ch c.requires.0 l _ _ _ (512 * (l + 1)) (512 * (l + 2)) n c.requires.1
-          (part_end ch (512 * (l + 1))) (part_end ch (512 * (l + 2))) (part_end ch n) (omega arith) (omega arith) (omega (arith, c.rounds-r.ensures)),
-      c.requires.2,
-    )
+pub of_chain-round-requires : goal.of_chain-round-requires
+of_chain-round-requires c = ((3, 0, c.requires.0), c.requires.1)
 
 pub returns : goal.returns
+unfolding reading_book_round
 returns c =
-    let ch = c.args.chain.now in
-    let l = c.args.l in
-    let n = 512 * (c.rounds-r.result + 2) + 408 * l in
+    let keys = c.args.keys.now in
     c.round_tables.ensures
-    ∙ ap (λ (q : RoundCodings). reading_part q c.args.k)
-    (codings_at c.args.size ch c.requires.0 l _ _ _ (512 * (l + 1)) (512 * (l + 2)) n c.requires.1
-    (part_end ch (512 * (l + 1))) (part_end ch (512 * (l + 2))) (part_end ch n) (omega arith) (omega arith) (omega (arith, c.rounds-r.ensures)))
+    ∙ ap₂ reading_part c.of_chain-round.ensures (row_back_is (rounds keys.size) c.rounds-r.result c.args.l keys.rows c.rounds-r.ensures)

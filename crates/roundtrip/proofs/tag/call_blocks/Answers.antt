@@ -1,22 +1,24 @@
--- `tag::call_blocks` meets its contract. The invariant: k block calls are made.
-use mathlib.Core.Path.{◌≡◌, refl, ap, ◌∙◌}
-use Prim.Native.Nat.{ℕ}
-use native.Mathlib.Omega.{arith}
+-- `tag::call_blocks` meets its contract.
+use Rattle.std.proofs.Common.{◌≡◌, ℕ, refl, ap, ◌∙◌, arith}
+use Rattle.table_reader.proofs.ChunkLaws.{chunk_lent, lent_count}
 use Rattle.roundtrip.specs.Steps.{after_blocks}
 use Rattle.roundtrip.proofs.TagRoundtrip.{after_turn}
 use Rattle.roundtrip.proofs.tag.call_blocks.Goals as goal
 
-pub loop-k-init : goal.loop-k-init
+pub loop-block-init : goal.loop-block-init
 unfolding after_blocks
-loop-k-init c = (omega arith, refl)
+loop-block-init c = refl
 
-pub loop-k-preserved : goal.loop-k-preserved
-loop-k-preserved c =
+pub loop-block-preserved : goal.loop-block-preserved
+loop-block-preserved c =
     let a = c.args in
-    (omega arith, after_turn a.book.now a.coded.now c.loop-k.k a.s c.loop-k.t c.block_call-a.result c.loop-k.invariant.1 c.block_call-a.ensures)
+    let l = c.loop-block in
+    c.unwrap_or-next.ensures
+    ∙ after_turn a.book.now a.coded.now l.block-index a.s l.t _ c.block_call.result l.invariant
+    (chunk_lent 16 _ _ _ _ _ c.as_chunks.ensures.front c.loop-block-test.true) c.block_call.ensures
 
 pub returns : goal.returns
 returns c =
     let a = c.args in
-    let e : c.loop-k.k ≡ a.n = omega arith in
-    c.loop-k.invariant.1 ∙ ap (λ (j : ℕ). after_blocks a.book.now a.coded.now j a.s) e
+    let e : c.loop-block.block-index ≡ a.n = omega (arith, lent_count 16 a.n _ _ _ c.as_chunks.ensures.front (omega arith)) in
+    c.loop-block.invariant ∙ ap (λ (k : ℕ). after_blocks a.book.now a.coded.now k a.s) e

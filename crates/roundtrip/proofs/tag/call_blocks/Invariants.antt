@@ -1,11 +1,7 @@
--- `tag::call_blocks` meets its contract. The invariant: k block calls are made.
-use mathlib.Core.Path.{◌≡◌}
-use Prim.Native.Nat.{◌-◌, ◌≤◌}
+-- `tag::call_blocks` meets its contract. The invariant: the calls with the blocks so far are made.
+use Rattle.std.proofs.Common.{◌≡◌}
 use Rattle.roundtrip.specs.Steps.{after_blocks}
 use Rattle.roundtrip.proofs.tag.call_blocks.Given as goal
 
-abbrev pub invariant-loop-k : goal.invariant-loop-k
-invariant-loop-k l = (l.k ≤ l.n) × (l.t ≡ after_blocks l.book l.coded l.k l.initial.t)
-
-abbrev pub decreases-loop-k : goal.decreases-loop-k
-decreases-loop-k l = l.n - l.k
+abbrev pub invariant-loop-block : goal.invariant-loop-block
+invariant-loop-block l = l.t ≡ after_blocks l.book l.coded l.block-index l.initial.t

@@ -1,57 +1,38 @@
 -- `tag::tag_roundtrip` meets its contract.
-use mathlib.Core.Path.{refl, sym, ◌∙◌}
-use mathlib.Core.List.{List}
-use Prim.Native.Nat.{ℕ}
-use native.Mathlib.Omega.{arith}
-use lib.ListN.{take}
-use Rattle.lists.proofs.BlockLaws.{bytes_of_lem}
-use Rattle.cipher.proofs.KeySizeLaws.{rounds_le}
+use Rattle.std.proofs.Common.{ℕ, List, sym, ap, ◌∙◌, rules, arith}
+use Rattle.cipher.proofs.PassedLaws.{passed}
+use Rattle.archive.specs.Archive.{checked_told}
 use Rattle.roundtrip.specs.Roundtrips.{key_book, over, tag_roundtrip}
 use Rattle.roundtrip.specs.Steps.{coded_checked}
 use Rattle.roundtrip.proofs.StartLaws.{way_refused, way_done, held_is, way_built, sets_fit, cut_set, book_fits, cut_book}
 use Rattle.roundtrip.proofs.TagRoundtrip.{coded_checked_lem}
 use Rattle.roundtrip.proofs.tag.tag_roundtrip.Goals as goal
 
-pub returns-in-Refused : goal.returns-in-Refused
+pub returns-in_err-size : goal.returns-in_err-size
 unfolding tag_roundtrip
-returns-in-Refused c =
+returns-in_err-size c =
     let a = c.args in
-    way_refused _ _ _ _ _ _ c.start.ensures (λ b q. ((q, 0), (b, a.coded.now))) _ _ c.in-Refused.is
+    (λ i. (ap checked_told (passed c.from_residual.ensures.1) i, (c.start.new.book, a.coded.now)))
+    ∙ way_refused _ _ _ _ _ _ c.start.ensures (λ b q. ((q, 0), (b, a.coded.now))) _ _ c.in_err-size.was
 
-pub slice_bounds-u-end : goal.slice_bounds-u-end
-slice_bounds-u-end c = omega (arith, sets_fit _ _ _ _ _ _ c.start.ensures _ c.in-Built.is _ refl)
+pub of-parts-requires-clause-chain_fits : goal.of-parts-requires-clause-chain_fits
+of-parts-requires-clause-chain_fits c = sets_fit _ _ _ _ _ _ c.start.ensures _ c.in_ok-size.was
 
-pub overflow_add-last : goal.overflow_add-last
-overflow_add-last c = omega (arith, c.rounds.ensures, rounds_le c.in-Built.size)
+pub of-parts-requires-clause-book_fits : goal.of-parts-requires-clause-book_fits
+of-parts-requires-clause-book_fits c = omega (arith, book_fits _ _ _ _ _ _ c.start.ensures _ c.in_ok-size.was, c.start.auto.book)
 
-pub overflow_mul-last : goal.overflow_mul-last
-overflow_mul-last c = omega (arith, c.rounds.ensures, rounds_le c.in-Built.size)
-
-pub overflow_add-set : goal.overflow_add-set
-overflow_add-set c = omega (arith, c.rounds.ensures, rounds_le c.in-Built.size)
-
-pub slice_bounds-set-end : goal.slice_bounds-set-end
-slice_bounds-set-end c = omega (arith, sets_fit _ _ _ _ _ _ c.start.ensures _ c.in-Built.is _ c.rounds.ensures)
-
-pub slice_bounds-code_check-end : goal.slice_bounds-code_check-end
-slice_bounds-code_check-end c = omega (
-  arith,
-  book_fits _ _ _ _ _ _ c.start.ensures _
-      c.in-Built.is _ c.book_len.ensures,
-)
-
-pub returns-in-Built : goal.returns-in-Built
+pub returns : goal.returns
 unfolding tag_roundtrip
-returns-in-Built c =
+returns c =
     let a = c.args in
+    let p = c.of-parts.ensures in
     let e = c.start.ensures in
-    let d = c.in-Built.is in
-    let s = cut_set _ _ _ _ _ _ e _ d _ c.rounds.ensures in
-    let b = cut_book _ _ _ _ _ _ e _ d _ c.book_len.ensures in
+    let d = c.in_ok-size.was in
+    let s = p.set ∙ cut_set _ _ _ _ _ _ e _ d in
+    let b = p.book ∙ cut_book _ _ _ _ _ _ e _ d in
     let w : (ℕ × ℕ) × List ℕ → (ℕ × ℕ) × (List ℕ × List ℕ) = λ o. (o.0, (over (key_book a.schedule a.key.now a.chain.now) a.book.now, o.1)) in
     let o = c.code_check.ensures in
     (λ i. ((o i).0, (held_is _ _ _ _ _ _ e _ d i, (o i).1)))
-    ∙ (λ i. w (coded_checked a.schedule a.key.now (take 512 a.chain.now) (s i) (b i) a.message.now a.coded.now))
-    ∙ coded_checked_lem _ _ _ _ _ (way_built _ _ _ _ _ _ e _ d) a.message.now a.coded.now
-    (bytes_of_lem a.message.now (λ j h. omega (arith, c.shared_slice_known-3-1.given j))) w
+    ∙ (λ i. w (coded_checked (p.schedule i) (p.key i) (p.u i) (s i) (b i) a.message.now a.coded.now))
+    ∙ coded_checked_lem _ _ _ _ _ (way_built _ _ _ _ _ _ e _ d) a.message.now a.coded.now (λ k. search rules) w
     ∙ sym (way_done _ _ _ _ _ _ e _ d _ _)

@@ -1,10 +1,7 @@
 -- `block::padded` meets its contract.
-use Rattle.std.proofs.Common.{ℕ, ◌*◌, ◌/◌, ◌%◌, List, length, set, refl, ap, ◌∙◌}
+use Rattle.std.proofs.Common.{refl, ◌∙◌}
 use Rattle.sha256.proofs.PaddingLaws.{padded_stored}
 use Rattle.sha256.proofs.block.padded.Goals as goal
 
 pub returns : goal.returns
-returns c =
-    let m = c.args.m.now in
-    let n = length m in
-    ap (λ (l : List ℕ). set (set (set l n 0x80) 62 (n / 32)) 63 (n % 32 * 8)) c.copied-p.ensures ∙ padded_stored m n refl c.requires
+returns c = padded_stored c.args.m.now _ refl c.requires _ _ c.copied-p.ensures (c.copy_from_slice.ensures.after ∙ c.to_be_bytes.ensures)

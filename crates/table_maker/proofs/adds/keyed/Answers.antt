@@ -1,19 +1,8 @@
--- `adds::keyed` meets its contract. The invariant: q values are written.
-use mathlib.Core.Path.{refl}
-use native.Mathlib.Omega.{arith}
-use Rattle.lists.specs.Tabulation.{tab}
-use Rattle.table_maker.proofs.RowLaws.{fill_next, fill_done}
+-- `adds::keyed` meets its contract.
+use Rattle.std.proofs.Common.{rules}
+use Rattle.lists.proofs.FromFnLaws.{tab_from_fn}
 use Rattle.table_maker.specs.Made.{keyed_by}
 use Rattle.table_maker.proofs.adds.keyed.Goals as goal
 
-pub loop-q-init : goal.loop-q-init
-unfolding tab
-loop-q-init c = (omega arith, refl)
-
-pub loop-q-preserved : goal.loop-q-preserved
-loop-q-preserved c =
-    let a = c.args in
-    fill_next (keyed_by a.s.now a.at a.k) 16 c.loop-q.b c.loop-q.q _ c.loop-q.invariant refl (omega arith)
-
 pub returns : goal.returns
-returns c = fill_done _ 16 _ c.loop-q.q c.loop-q.invariant (omega arith)
+returns c = let a = c.args in tab_from_fn _ _ _ (keyed_by a.s.now a.at a.k) 16 (λ i y q b w. search rules) c.from_fn.ensures.items

@@ -7,12 +7,12 @@ use Rattle.table_reader.proofs.SumLaws.{sums_first, sums_next}
 use Rattle.table_reader.proofs.sums.sums.Goals as goal
 
 pub loop-m-init : goal.loop-m-init
-loop-m-init c = (omega arith, sums_first _ _ _ refl)
+loop-m-init c = sums_first _ _ _ refl
 
 pub loop-m-preserved : goal.loop-m-preserved
 unfolding three
 loop-m-preserved c =
-    (omega arith, sums_next _ _ _ _ _ _ _ _ _ _ _ _ _ _ (omega arith) c.loop-m.invariant.1 c.add_two-w0.ensures c.add_two-w1.ensures c.add_two-w2.ensures)
+    sums_next _ _ _ _ _ _ _ _ _ _ _ _ _ _ (omega arith) c.loop-m.invariant c.add_two-w0.ensures c.add_two-w1.ensures c.add_two-w2.ensures
 
 pub returns : goal.returns
-returns c = three_full _ _ _ _ (omega arith) c.loop-m.invariant.1.are
+returns c = three_full _ _ _ _ (omega arith) c.loop-m.invariant.are

@@ -1,10 +1,6 @@
 -- `sums::sums` meets its contract. The invariant: m bytes of each sum are made.
-use Prim.Native.Nat.{◌-◌, ◌≤◌}
 use Rattle.table_reader.proofs.SumLaws.{Sums}
 use Rattle.table_reader.proofs.sums.sums.Given as goal
 
 abbrev pub invariant-loop-m : goal.invariant-loop-m
-invariant-loop-m l = (l.m ≤ 4) × Sums l.t l.b l.initial.s l.m l.s l.c0 l.c1 l.c2
-
-abbrev pub decreases-loop-m : goal.decreases-loop-m
-decreases-loop-m l = 4 - l.m
+invariant-loop-m l = Sums l.t l.b l.initial.s l.m l.s l.c0 l.c1 l.c2

@@ -1,31 +1,11 @@
 -- `word::bytes` meets its contract.
-use mathlib.Core.List.{[], ◌∷◌}
-use lib.ListN.{get_or}
+use Rattle.std.proofs.Common.{◌/◌, ◌%◌, get_or, rules}
+use Rattle.lists.specs.Tabulation.{tab}
+use Rattle.lists.proofs.FromFnLaws.{tab_from_fn}
 use Rattle.words.specs.Word as W
 use Rattle.words.proofs.word.bytes.Goals as goal
 
 pub returns : goal.returns
-unfolding W.bytes W.bytes_of
+unfolding tab W.bytes W.bytes_of
 returns c =
-    let a = c.bytes_of-a.ensures in
-    let b = c.bytes_of-b.ensures in
-    let d = c.bytes_of-c.ensures in
-    let e = c.bytes_of-d.ensures in
-    λ i.
-    get_or (a i) 0 0
-    ∷ get_or (a i) 1 0
-    ∷ get_or (a i) 2 0
-    ∷ get_or (a i) 3 0
-    ∷ get_or (b i) 0 0
-    ∷ get_or (b i) 1 0
-    ∷ get_or (b i) 2 0
-    ∷ get_or (b i) 3 0
-    ∷ get_or (d i) 0 0
-    ∷ get_or (d i) 1 0
-    ∷ get_or (d i) 2 0
-    ∷ get_or (d i) 3 0
-    ∷ get_or (e i) 0 0
-    ∷ get_or (e i) 1 0
-    ∷ get_or (e i) 2 0
-    ∷ get_or (e i) 3 0
-    ∷ []
+    tab_from_fn _ _ _ (λ k. get_or (W.bytes_of (get_or c.args.x (k / 4) 0)) (k % 4) 0) 16 (λ i y q b w. search rules) c.from_fn.ensures.items

@@ -1,7 +1,0 @@
--- `fill::byte_at` meets its contract.
-use mathlib.Core.Path.{sym}
-use lib.ListN.{get_or-eq_default}
-use Rattle.maker.proofs.fill.byte_at.Goals as goal
-
-pub returns : goal.returns
-returns c = sym (get_or-eq_default c.args.random.now 0 c.if-at-random.false)

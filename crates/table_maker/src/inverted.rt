@@ -1,0 +1,32 @@
+// Codings inverted once, so that a builder decodes by one look-up.
+ghost use Rattle.std.specs.Prelude.{◌≡◌, ◌*◌, ◌/◌, ◌≤◌, length};
+ghost use Rattle.lists.specs.Blocks.{Below};
+ghost use Rattle.cipher.specs.Coding.{FirstPermutations, inverted};
+ghost use Rattle.cipher.specs.Lengths.{coding_length};
+
+use cipher::invert::invert;
+use cipher::lengths;
+
+// N bytes: codings inverted, one after another. All are half bytes.
+#[derive(Clone, Copy)]
+pub struct Inverted<const N: usize> {
+    pub bytes: [u8; N],
+    ghost low: { Below 16 bytes },
+}
+
+impl<const N: usize> Inverted<N> {
+    // The codings in the front of a slice inverted.
+    pub fn of(codings: &[u8]) -> Inverted<N>
+        requires { (N ≡ N / 16 * 16) × (N ≤ length codings.now) × FirstPermutations (N / 16) codings.now }
+        ensures { result.bytes ≡ inverted (N / 16) codings.now }
+    {
+        let mut bytes = [0u8; N];
+        invert(codings, N / lengths::CODING, &mut bytes);
+        Inverted { bytes }
+    }
+}
+
+// A set inverted, and the codings of three words.
+pub type InvertedSet = Inverted<512>;
+
+pub type InvertedWords = Inverted<384>;

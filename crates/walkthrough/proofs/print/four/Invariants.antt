@@ -1,9 +1,0 @@
--- `print::four` is safe and ends.
-use Prim.Native.Nat.{◌-◌, ◌≤◌}
-use Rattle.walkthrough.proofs.print.four.Given as goal
-
-abbrev pub invariant-loop-k : goal.invariant-loop-k
-invariant-loop-k g l = l.k ≤ 4
-
-abbrev pub decreases-loop-k : goal.decreases-loop-k
-decreases-loop-k g l = 4 - l.k
