@@ -1,3 +1,4 @@
 pub mod Mac
 pub mod Blocks
 pub mod Archive
+pub mod Opened

@@ -9,7 +9,7 @@ ghost use Rattle.words.specs.Word.{words4};
 ghost use Rattle.words.specs.Rows.{RowsOfWords};
 ghost use Rattle.cipher.specs.Lea as L;
 ghost use Rattle.cipher.specs.Images.{imaged};
-ghost use Rattle.archive.specs.Blocks.{Table, opened_block};
+ghost use Rattle.archive.specs.Blocks.{Table};
 
 use cipher::block::put_block;
 use cipher::image::look_up;
@@ -63,6 +63,8 @@ pub struct Sealed<'a> {
 }
 
 impl<'a> Sealed<'a> {
+    ghost use Rattle.archive.specs.Opened.{opened_of};
+
     // Block k, decoded, in words.
     fn words_of(&self, k: usize) -> [u32; 4]
         requires { block_length * k + block_length ≤ length self.now.text.now }
@@ -86,7 +88,7 @@ impl<'a> Sealed<'a> {
     // Block k opened.
     pub fn open_block(&self, k: usize) -> [u8; 16]
         requires { block_length * k + block_length ≤ length self.now.text.now }
-        ensures { result ≡ opened_block self.now.keys.now.rows (S.rounds self.now.keys.now.size) (imaged self.now.table.now) self.now.iv.now self.now.text.now k }
+        ensures { result ≡ opened_of self.now k }
     {
         let prior = self.words_before(k);
         let c = self.words_of(k);
@@ -97,7 +99,7 @@ impl<'a> Sealed<'a> {
     // block, which has padding, is opened by itself: so n is fewer than the text has.
     pub fn open_blocks(&self, n: usize, out: &mut [u8])
         requires { (n ≤ 65536) × (block_length * n ≤ length self.now.text.now) × (block_length * n ≤ length out.old) }
-        ensures { out.new ≡ chunks n (opened_block self.now.keys.now.rows (S.rounds self.now.keys.now.size) (imaged self.now.table.now) self.now.iv.now self.now.text.now) ++ drop (block_length * n) out.old }
+        ensures { out.new ≡ chunks n (opened_of self.now) ++ drop (block_length * n) out.old }
     {
         let fours = n / 4;
         // By index: a turn reads four blocks and what stands in front of them, and fewer than four are

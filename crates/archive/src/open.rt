@@ -3,12 +3,11 @@ ghost use Rattle.std.specs.Prelude.{◌≡◌, ◌++◌, ◌+◌, ◌/◌, ◌%�
 ghost use Rattle.cipher.specs.Lengths.{images_length, longest_code};
 ghost use Rattle.lists.specs.Blocks.{block_length};
 ghost use Rattle.lists.specs.Tabulation.{chunks};
-ghost use Rattle.cipher.specs.KeySize as S;
 ghost use Rattle.cipher.specs.Refusal.{written_of};
 ghost use Rattle.cipher.specs.Coding.{inverted};
-ghost use Rattle.cipher.specs.Images.{images_of, imaged};
+ghost use Rattle.cipher.specs.Images.{images_of};
 ghost use Rattle.cipher.specs.Chain.{LoneSet};
-ghost use Rattle.archive.specs.Blocks.{opened_block};
+ghost use Rattle.archive.specs.Opened.{opened_of};
 ghost use Rattle.archive.specs.Archive as R;
 
 use crate::blocks::Sealed;
@@ -42,8 +41,8 @@ fn decodings(set: &[u8], table: &mut [u8])
 // A sealed text opened into the front of out, its padding taken off. The padding is judged before
 // anything is written.
 fn open_text(sealed: &Sealed, out: &mut [u8]) -> Result<usize, Refusal>
-    requires { (0 < length sealed.now.text.now) × (length sealed.now.text.now ≤ longest_code) × (length sealed.now.text.now % block_length ≡ 0) × (length sealed.now.text.now ≤ length out.old) }
-    ensures { let t = chunks (length sealed.now.text.now / block_length) (opened_block sealed.now.keys.now.rows (S.rounds sealed.now.keys.now.size) (imaged sealed.now.table.now) sealed.now.iv.now sealed.now.text.now) in (written_of result, out.new) ≡ R.text_answer t out.old }
+    requires { let n = length sealed.now.text.now in (0 < n) × (n ≤ longest_code) × (n % block_length ≡ 0) × (n ≤ length out.old) }
+    ensures { (written_of result, out.new) ≡ R.text_answer (chunks (length sealed.now.text.now / block_length) (opened_of sealed.now)) out.old }
 {
     let n = sealed.text.len();
     let k = n / lengths::BLOCK - 1;

@@ -6,13 +6,13 @@ use Rattle.cipher.specs.Refusal.{written_of, number_of}
 use Rattle.cipher.proofs.ImageLaws.{block_imaged}
 use Rattle.cipher.proofs.PassedLaws.{passed, or_none, or_some}
 use Rattle.archive.specs.declared.blocks.Sealed.{Sealed}
-use Rattle.archive.specs.Blocks.{opened_block}
+use Rattle.archive.specs.Opened.{opened_of}
 use Rattle.archive.proofs.OpenLaws.{block_opened}
 use Rattle.archive.proofs.PaddingLaws.{few}
 use Rattle.archive.proofs.OpenedLaws.{text_bad, text_made}
 use Rattle.archive.proofs.open.open_text.Goals as goal
 
-size : (s : Sealed) (k : ℕ) → length (opened_block s.keys.now.rows (rounds s.keys.now.size) (imaged s.table.now) s.iv.now s.text.now k) ≡ 16
+size : (s : Sealed) (k : ℕ) → length (opened_of s k) ≡ 16
 size s k = (block_opened s.keys.now.rows (rounds s.keys.now.size) (imaged s.table.now) (λ b. block_imaged s.table.now b s.decodes.1) s.iv.now s.text.now k).size
 
 pub returns-in_err-v : goal.returns-in_err-v

@@ -5,19 +5,19 @@ use Rattle.words.specs.Word.{bytes}
 use Rattle.cipher.specs.KeySize.{rounds}
 use Rattle.cipher.specs.Images.{imaged}
 use Rattle.cipher.proofs.ImageLaws.{block_imaged}
-use Rattle.archive.specs.Blocks.{opened_block}
+use Rattle.archive.specs.Opened.{opened_of}
 use Rattle.archive.specs.declared.blocks.Sealed.{Sealed}
 use Rattle.archive.proofs.OpenLaws.{opened_four, block_opened, open_turn}
 use Rattle.archive.proofs.blocks.Sealed.open_blocks.Goals as goal
 
 -- one block more
 turn : (s : Sealed) (out₀ : List ℕ) (k n : ℕ) (out y : List ℕ) → k + 1 ≡ n
-    → out ≡ chunks k (opened_block s.keys.now.rows (rounds s.keys.now.size) (imaged s.table.now) s.iv.now s.text.now) ++ drop (16 * k) out₀
-    → y ≡ opened_block s.keys.now.rows (rounds s.keys.now.size) (imaged s.table.now) s.iv.now s.text.now k
-    → take (16 * k) out ++ y ++ drop (16 * k + 16) out ≡ chunks n (opened_block s.keys.now.rows (rounds s.keys.now.size) (imaged s.table.now) s.iv.now s.text.now) ++ drop (16 * n) out₀
+    → out ≡ chunks k (opened_of s) ++ drop (16 * k) out₀
+    → y ≡ opened_of s k
+    → take (16 * k) out ++ y ++ drop (16 * k + 16) out ≡ chunks n (opened_of s) ++ drop (16 * n) out₀
 turn s out₀ k n out y e eo ey =
     let f = imaged s.table.now in
-    let g = opened_block s.keys.now.rows (rounds s.keys.now.size) f s.iv.now s.text.now in
+    let g = opened_of s in
     let size : (k : ℕ) → length (g k) ≡ 16 = λ k. (block_opened s.keys.now.rows (rounds s.keys.now.size) f (λ b. block_imaged s.table.now b s.decodes.1) s.iv.now s.text.now k).size in
     open_turn g size out₀ k out y eo ey ∙ (λ i. chunks (e i) g ++ drop (16 * e i) out₀)
 

@@ -1,16 +1,14 @@
 -- `blocks::Sealed::open_blocks` meets its contract. The invariants: 4j blocks are opened, m more of them, and then k.
 use Rattle.std.proofs.Common.{◌≡◌, ℕ, List, ◌+◌, ◌*◌, ◌≤◌, ◌++◌, length, drop}
 use Rattle.lists.specs.Tabulation.{chunks}
-use Rattle.cipher.specs.KeySize.{rounds}
-use Rattle.cipher.specs.Images.{imaged}
-use Rattle.archive.specs.Blocks.{opened_block}
+use Rattle.archive.specs.Opened.{opened_of}
 use Rattle.archive.specs.declared.blocks.Sealed.{Sealed}
 use Rattle.archive.proofs.blocks.Sealed.open_blocks.Given as goal
 
 -- what out holds, which held out₀, when n blocks are opened
 abbrev opened : Sealed → List ℕ → ℕ → List ℕ → Type 0
 opened s out₀ n out =
-    (out ≡ chunks n (opened_block s.keys.now.rows (rounds s.keys.now.size) (imaged s.table.now) s.iv.now s.text.now) ++ drop (16 * n) out₀)
+    (out ≡ chunks n (opened_of s) ++ drop (16 * n) out₀)
     × (length out ≡ length out₀)
 
 abbrev pub invariant-loop-j : goal.invariant-loop-j
