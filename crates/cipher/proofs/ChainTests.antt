@@ -1,6 +1,7 @@
 -- The tests of sets and chains say what they should, both ways: each is passed exactly where its rule holds, so the tests
 -- 2 to 5 let through the valid chains and no others.
-use Rattle.std.proofs.Common.{◌≡◌, ℕ, zero, suc, ◌+◌, ◌*◌, ◌/◌, ◌%◌, ◌<◌, ◌≤◌, Bool, true, false, not, ◌&&◌, eqb, ltb, List, length, get_or, take, drop, sym, refl, ap, ◌∙◌, subst, arith, lit<, length-take-le, get_or-drop, get_or-take, ltb-true, lt-ltb, eq-eqb, ne_eqb, eqb-true}
+use Rattle.std.proofs.Common.{◌≡◌, ℕ, zero, suc, ◌+◌, ◌*◌, ◌/◌, ◌%◌, ◌<◌, ◌≤◌, Bool, true, false, not, ◌&&◌, eqb, ltb}
+use Rattle.std.proofs.Common.{List, length, get_or, take, drop, sym, refl, ap, ◌∙◌, subst, arith, lit<, length-take-le, get_or-drop, get_or-take, ltb-true, lt-ltb, eq-eqb, ne_eqb, eqb-true}
 use native.Mathlib.Decide.{dec_lt}
 use borrow.Author.Tests.{eqb-false, not-true, not-false}
 use Rattle.lists.specs.Every.{every}
