@@ -36,7 +36,8 @@ pub fn start(last: &[u8], out: &mut [u8])
 // The three groups: folds from the set in the front of last and the message set to that in the
 // front of first, under no key, K1 and K2.
 pub fn groups(last: &[u8], message: &[u8], first: &[u8], keys: SubkeyPair, out: &mut [u8])
-    requires { FirstPermutations 32 last.now × (set_length ≤ length last.now) × FirstPermutations 32 message.now × (set_length ≤ length message.now) × (set_length ≤ length first.now) × (length out.old ≡ 3 * group_length) }
+    requires { FirstPermutations 32 last.now × (set_length ≤ length last.now) × FirstPermutations 32 message.now × (set_length ≤ length message.now)
+        × (set_length ≤ length first.now) × (length out.old ≡ 3 * group_length) }
     ensures { out.new ≡ chunks 3 (λ g. group_part (set_of last.now) (set_of message.now) (set_of first.now) (three_keys keys.k1 keys.k2 g)) }
 {
     let s = InvertedSet::of(last);

@@ -66,7 +66,8 @@ pub fn bowlinette_write_ink(
     out: &mut [u8],
     length: &mut u64,
 ) -> u32
-    ensures { ((result, length.new), out.new) ≡ kept (write_ink_answer (fields_given number.now iv.now sealed.now tag.now kinds.now (r0.now ∷ r1.now ∷ r2.now ∷ r3.now ∷ [])) out.old) length.old }
+    ensures { ((result, length.new), out.new)
+        ≡ kept (write_ink_answer (fields_given number.now iv.now sealed.now tag.now kinds.now (r0.now ∷ r1.now ∷ r2.now ∷ r3.now ∷ [])) out.old) length.old }
 {
     let written = inkfile::write::write_ink(number, iv, sealed, tag, kinds, r0, r1, r2, r3, out);
     deliver_length(written, length)

@@ -28,7 +28,8 @@ pub extern "C" fn bowlinette_write_ink(
     out: &mut [u8],
     length: &mut u64,
 ) -> u32
-    ensures { ((result, length.new), out.new) ≡ kept (write_ink_answer (fields_given number.now iv.now sealed.now tag.now kinds.now (r0.now ∷ r1.now ∷ r2.now ∷ r3.now ∷ [])) out.old) length.old }
+    ensures { ((result, length.new), out.new)
+        ≡ kept (write_ink_answer (fields_given number.now iv.now sealed.now tag.now kinds.now (r0.now ∷ r1.now ∷ r2.now ∷ r3.now ∷ [])) out.old) length.old }
 {
     bowlinette::ink::bowlinette_write_ink(
         number, iv, sealed, tag, kinds, r0, r1, r2, r3, out, length,

@@ -82,7 +82,8 @@ pub fn bowlinette_seal_roundtrip(
     out: &mut [u8],
     length: &mut u64,
 ) -> u32
-    ensures { ((result, length.new), (book.new, coded.new, sealed.new, out.new)) ≡ kept (seal_roundtrip schedule key.now chain.now iv.now message.now book.old coded.old sealed.old out.old) length.old }
+    ensures { ((result, length.new), (book.new, coded.new, sealed.new, out.new))
+        ≡ kept (seal_roundtrip schedule key.now chain.now iv.now message.now book.old coded.old sealed.old out.old) length.old }
 {
     deliver_length(
         roundtrip::seal::seal_roundtrip(

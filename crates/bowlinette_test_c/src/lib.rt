@@ -63,7 +63,8 @@ pub extern "C" fn bowlinette_seal_roundtrip(
     out: &mut [u8],
     length: &mut u64,
 ) -> u32
-    ensures { ((result, length.new), (book.new, coded.new, sealed.new, out.new)) ≡ kept (seal_roundtrip schedule key.now chain.now iv.now message.now book.old coded.old sealed.old out.old) length.old }
+    ensures { ((result, length.new), (book.new, coded.new, sealed.new, out.new))
+        ≡ kept (seal_roundtrip schedule key.now chain.now iv.now message.now book.old coded.old sealed.old out.old) length.old }
 {
     bowlinette_test::bowlinette_seal_roundtrip(
         schedule, key, chain, iv, message, book, coded, sealed, out, length,

@@ -125,7 +125,8 @@ pub fn write_ink<'a>(
     r3: &'a [u8],
     out: &mut [u8],
 ) -> Result<usize, Refusal>
-    ensures { (written_of result, out.new) ≡ W.write_ink_answer (W.fields_given number.now iv.now sealed.now tag.now kinds.now (r0.now ∷ r1.now ∷ r2.now ∷ r3.now ∷ [])) out.old }
+    ensures { (written_of result, out.new)
+        ≡ W.write_ink_answer (W.fields_given number.now iv.now sealed.now tag.now kinds.now (r0.now ∷ r1.now ∷ r2.now ∷ r3.now ∷ [])) out.old }
 {
     let given = Given {
         number,

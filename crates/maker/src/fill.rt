@@ -30,7 +30,10 @@ fn free_coding(source: &mut Source, plan: &Plan, k: usize, out: &mut [u8])
 // Coding k of U and the sets, into its place in out: taken over from the set before, or free.
 fn set_coding(source: &mut Source, plan: &Plan, k: usize, out: &mut [u8])
     requires { Near 1000000 source.old × (k ≤ 1088) × (coding_length * k + coding_length ≤ length out.old) }
-    ensures { (source.new ≡ past (M.set_use (planned plan.now) k) source.old) × (out.new ≡ take (coding_length * k) out.old ++ cond (P.fixed_coding (planned plan.now) k) (take coding_length (drop (coding_length * P.source (planned plan.now) k) out.old)) (M.free_coding (planned plan.now) k (rest source.old)) ++ drop (coding_length * k + coding_length) out.old) }
+    ensures { let p = planned plan.now in (source.new ≡ past (M.set_use p k) source.old)
+        × (out.new ≡ take (coding_length * k) out.old
+        ++ cond (P.fixed_coding p k) (take coding_length (drop (coding_length * P.source p k) out.old)) (M.free_coding p k (rest source.old))
+        ++ drop (coding_length * k + coding_length) out.old) }
 {
     let here = lengths::CODING * k;
     if plan.fixes(k) {
@@ -47,7 +50,7 @@ fn set_coding(source: &mut Source, plan: &Plan, k: usize, out: &mut [u8])
 // The first n codings of U and the sets.
 pub fn draw_sets(source: &mut Source, plan: &Plan, n: usize, out: &mut [u8])
     requires { (n ≤ 1088) × Near 0 source.old × (length out.old ≡ n * coding_length) }
-    ensures { (source.new ≡ past (begins (M.set_use (planned plan.now)) n) source.old) × (out.new ≡ chunks n (M.set_coding (planned plan.now) (rest source.old))) }
+    ensures { let p = planned plan.now in (source.new ≡ past (begins (M.set_use p) n) source.old) × (out.new ≡ chunks n (M.set_coding p (rest source.old))) }
 {
     for k in 0..n {
         set_coding(source, plan, k, out);

@@ -10,7 +10,8 @@ ghost use Rattle.lists.specs.Tabulation.{chunks};
 pub fn in_parts<F: Fn(usize, &mut [u8])>(out: &mut [u8], len: usize, n: usize, fill: F)
     requires called { (p : ℕ) (part : _) → p < n → length part.now ≡ len → F.pre fill p part }
     requires room { length out.old ≡ n * len }
-    ensures { (g : ℕ → List ℕ) → ((p : ℕ) (part left : _) → p < n → length part.now ≡ len → F.post fill p part tt left → left.now ≡ g p) → out.new ≡ chunks n g }
+    ensures { (g : ℕ → List ℕ) → ((p : ℕ) (part left : _) → p < n → length part.now ≡ len → F.post fill p part tt left → left.now ≡ g p)
+        → out.new ≡ chunks n g }
 {
     // By place: after chunks_exact_mut a proof knows the parts' lengths and not their bytes.
     let mut at: usize = 0;

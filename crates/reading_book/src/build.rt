@@ -24,7 +24,8 @@ use table_maker::inverted::InvertedSet;
 // The group: folds from the sets in the fronts of last and of before to that in the front of first,
 // under no key. Permutations are asked as in crate book.
 fn group(last: &[u8], before: &[u8], first: &[u8], out: &mut [u8])
-    requires { FirstPermutations 32 last.now × (set_length ≤ length last.now) × FirstPermutations 32 before.now × (set_length ≤ length before.now) × (set_length ≤ length first.now) × (length out.old ≡ group_length) }
+    requires { FirstPermutations 32 last.now × (set_length ≤ length last.now) × FirstPermutations 32 before.now × (set_length ≤ length before.now)
+        × (set_length ≤ length first.now) × (length out.old ≡ group_length) }
     ensures { out.new ≡ group_part (set_of last.now) (set_of before.now) (set_of first.now) zeros }
 {
     let s = InvertedSet::of(last);

@@ -18,7 +18,8 @@ fn seal_open(
     sealed: &mut [u8],
     out: &mut [u8],
 ) -> Result<usize, Refusal>
-    ensures { (written_of result, (sealed.new, out.new)) ≡ sealed_opened parts.now.schedule parts.now.key.now parts.now.set.now parts.now.book.now iv.now coded.now sealed.old out.old }
+    ensures { let p = parts.now in (written_of result, (sealed.new, out.new))
+        ≡ sealed_opened p.schedule p.key.now p.set.now p.book.now iv.now coded.now sealed.old out.old }
 {
     let n = seal(parts.book, iv, coded, sealed)?;
     open(parts.schedule, parts.key, parts.set, iv, &sealed[0..n], out)
@@ -33,7 +34,8 @@ fn code_open(
     sealed: &mut [u8],
     out: &mut [u8],
 ) -> Result<usize, Refusal>
-    ensures { (written_of result, (coded.new, (sealed.new, out.new))) ≡ coded_opened parts.now.schedule parts.now.key.now parts.now.u.now parts.now.set.now parts.now.book.now iv.now message.now coded.old sealed.old out.old }
+    ensures { let p = parts.now in (written_of result, (coded.new, (sealed.new, out.new)))
+        ≡ coded_opened p.schedule p.key.now p.u.now p.set.now p.book.now iv.now message.now coded.old sealed.old out.old }
 {
     let n = code_for_sealing(parts.u, message, coded)?;
     seal_open(parts, iv, &coded[0..n], sealed, out)
@@ -53,7 +55,8 @@ pub fn seal_roundtrip(
     sealed: &mut [u8],
     out: &mut [u8],
 ) -> Result<usize, Refusal>
-    ensures { (written_of result, (book.new, coded.new, sealed.new, out.new)) ≡ seal_roundtrip schedule key.now chain.now iv.now message.now book.old coded.old sealed.old out.old }
+    ensures { (written_of result, (book.new, coded.new, sealed.new, out.new))
+        ≡ seal_roundtrip schedule key.now chain.now iv.now message.now book.old coded.old sealed.old out.old }
 {
     let size = start(schedule, key, chain, book)?;
     let parts = Parts::of(schedule, key, size, chain, &*book);

@@ -47,7 +47,8 @@ fn tag_of(book: &[u8], coded: &[u8], kind: u8) -> [u8; 16]
 
 // A message coded by the set u, tagged and checked.
 fn code_check(parts: &Parts, message: &[u8], coded: &mut [u8]) -> Result<Verdict, Refusal>
-    ensures { (checked_told result, coded.new) ≡ coded_checked parts.now.schedule parts.now.key.now parts.now.u.now parts.now.set.now parts.now.book.now message.now coded.old }
+    ensures { let p = parts.now in (checked_told result, coded.new)
+        ≡ coded_checked p.schedule p.key.now p.u.now p.set.now p.book.now message.now coded.old }
 {
     let code = code_for_tag(parts.u, message, coded)?;
     let tag = tag_of(parts.book, &coded[0..code.length], code.kind);

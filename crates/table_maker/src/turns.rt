@@ -86,7 +86,8 @@ fn lower_part(i: usize, v: u8) -> u8
 // A turn table: s has inverted codings, those of the upper and of the lower half byte at two places,
 // cut as those of sum i; the coding of the turned half byte is in the front of coding.
 pub fn turned_table(s: &[u8], upper: usize, lower: usize, i: usize, coding: &[u8], out: &mut [u8])
-    requires { (upper + coding_length ≤ length s.now) × (lower + coding_length ≤ length s.now) × Below 16 s.now × (coding_length ≤ length coding.now) × (length out.old ≡ turn_length) }
+    requires { (upper + coding_length ≤ length s.now) × (lower + coding_length ≤ length s.now) × Below 16 s.now
+        × (coding_length ≤ length coding.now) × (length out.old ≡ turn_length) }
     ensures { out.new ≡ turned_rows s.now upper lower i coding.now }
 {
     let a: [u8; lengths::VALUES] = from_fn(|q| upper_part(i, s[upper + q]));
