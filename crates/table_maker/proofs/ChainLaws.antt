@@ -8,7 +8,7 @@ use Rattle.cipher.specs.Coding.{FirstPermutations}
 use Rattle.cipher.specs.KeySize.{rounds}
 use Rattle.cipher.specs.Chain.{ChainBy, round_bytes, round_codings}
 use Rattle.cipher.specs.declared.size.KeySize.{KeySize}
-use Rattle.table_maker.specs.Made.{RoundReady, codings_of}
+use Rattle.table_maker.specs.Made.{RoundBytes, RoundReady, codings_of}
 
 module _ {from to : ℕ} (z : KeySize) (ch : List ℕ) (h : ChainBy from to z ch) where
   pub sets_permute : (l : ℕ) → l ≤ rounds z → FirstPermutations 32 (drop (512 * suc l) ch)
@@ -34,6 +34,17 @@ module _ {from to : ℕ} (z : KeySize) (ch : List ℕ) (h : ChainBy from to z ch
       let e : 384 + (k - 384) ≡ k = omega arith in
       let p = h.masks l (k - 384) hl (omega arith) in
       rw e at p
+
+  -- the bytes of a round are half bytes, and masks that are bits
+  pub bytes_valid : (l : ℕ) (R : List ℕ) (n : ℕ) → l < rounds z → R ≡ drop n ch → n ≡ 512 * (rounds z + 2) + 408 * l → RoundBytes R
+  bytes_valid l R n hl eR en = record {
+    room = rw (eR, length-drop) (omega (arith, h.size));
+    codings = λ v hv.
+        let e : 16 * (v / 16) + v % 16 ≡ v = omega arith in
+        let p = (middles_permute l hl (v / 16) (omega arith)).low (v % 16) (omega arith) in
+        rw (eR, en) (rw e at p);
+    masks = rw (eR, en) (masks_are l hl);
+  }
 
   module _ (l : ℕ) (B A R : List ℕ) (b a n : ℕ) (hl : l < rounds z) (eB : B ≡ drop b ch) (eA : A ≡ drop a ch) (eR : R ≡ drop n ch)
       (eb : b ≡ 512 * suc l) (ea : a ≡ 512 * suc (suc l)) (en : n ≡ 512 * (rounds z + 2) + 408 * l) where

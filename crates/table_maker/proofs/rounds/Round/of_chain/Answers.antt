@@ -1,8 +1,17 @@
 -- `of_chain` of rounds meets its contract.
 use Rattle.std.proofs.Common.{◌+◌, ◌*◌, arith}
 use Rattle.lists.proofs.PartLaws.{part_end}
-use Rattle.table_maker.proofs.ChainLaws.{round_ready, codings_at}
+use Rattle.table_maker.proofs.ChainLaws.{bytes_valid, round_ready, codings_at}
 use Rattle.table_maker.proofs.rounds.Round.of_chain.Goals as goal
+
+pub invariant_of-middles : goal.invariant_of-middles
+invariant_of-middles c =
+    let ch = c.args.chain.now in
+    let l = c.args.l in
+    let n = 512 * (c.rounds-r.result + 2) + 408 * l in
+    record {
+      valid = bytes_valid c.args.size ch c.requires.0.2 l _ n c.requires.1 (part_end ch n) (omega (arith, c.rounds-r.ensures));
+    }
 
 pub invariant_of-result : goal.invariant_of-result
 invariant_of-result c =
