@@ -31,8 +31,8 @@ fn round_tables(round: Round, k: [u32; 6], out: &mut [u8])
     );
 }
 
-// The tables of round l of a chain. `reading_book` has one of its own, as it has a round_tables: the rule
-// of its chain is another, and it takes the rows from the last.
+// The tables of round l of a chain. `reading_book` has this and `round_parts` with a chain rule, a row and
+// tables of its own: a trait for these three would be longer than the three lines that both have.
 pub fn round_at(keys: &RoundKeys, chain: &[u8], l: usize, out: &mut [u8])
     requires { Chain keys.now.size chain.now × (l < S.rounds keys.now.size) × (length out.old ≡ round_length) }
     ensures { out.new ≡ book_round (S.rounds keys.now.size) keys.now.rows chain.now l }

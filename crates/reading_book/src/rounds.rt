@@ -30,7 +30,8 @@ fn round_tables(round: Round, k: [u32; 6], out: &mut [u8])
     subtract_tables(&m, &n, round, k, &mut out[SUBTRACTS..lengths::ROUND_TABLES]);
 }
 
-// The tables of round l of a reading chain; the last row of round keys is that of round 0.
+// The tables of round l of a reading chain; the last row of round keys is that of round 0. Crate book
+// says beside its own why this and `round_parts` are not one function with those.
 fn round_at(keys: &RoundKeys, chain: &[u8], l: usize, out: &mut [u8])
     requires { ReadingChain keys.now.size chain.now × (l < S.rounds keys.now.size) × (length out.old ≡ round_length) }
     ensures { out.new ≡ reading_book_round (S.rounds keys.now.size) keys.now.rows chain.now l }
