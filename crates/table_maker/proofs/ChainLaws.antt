@@ -35,17 +35,6 @@ module _ {from to : ℕ} (z : KeySize) (ch : List ℕ) (h : ChainBy from to z ch
       let p = h.masks l (k - 384) hl (omega arith) in
       rw e at p
 
-  -- the bytes of a round are half bytes, and masks that are bits
-  pub bytes_valid : (l : ℕ) (R : List ℕ) (n : ℕ) → l < rounds z → R ≡ drop n ch → n ≡ 512 * (rounds z + 2) + 408 * l → RoundBytes R
-  bytes_valid l R n hl eR en = record {
-    room = rw (eR, length-drop) (omega (arith, h.size));
-    codings = λ v hv.
-        let e : 16 * (v / 16) + v % 16 ≡ v = omega arith in
-        let p = (middles_permute l hl (v / 16) (omega arith)).low (v % 16) (omega arith) in
-        rw (eR, en) (rw e at p);
-    masks = rw (eR, en) (masks_are l hl);
-  }
-
   module _ (l : ℕ) (B A R : List ℕ) (b a n : ℕ) (hl : l < rounds z) (eB : B ≡ drop b ch) (eA : A ≡ drop a ch) (eR : R ≡ drop n ch)
       (eb : b ≡ 512 * suc l) (ea : a ≡ 512 * suc (suc l)) (en : n ≡ 512 * (rounds z + 2) + 408 * l) where
     pub round_ready : RoundReady B A R
@@ -62,3 +51,14 @@ module _ {from to : ℕ} (z : KeySize) (ch : List ℕ) (h : ChainBy from to z ch
     pub codings_at : codings_of B A R ≡ round_codings (rounds z) ch l
     unfolding codings_of round_codings
     codings_at = rw (eB, eA, eR, eb, ea, en)
+
+-- the bytes of a round are half bytes, and masks that are bits
+pub round_bytes_lem : (B A R : List ℕ) → RoundReady B A R → RoundBytes R
+round_bytes_lem B A R h = record {
+  room = h.room_middles;
+  codings = λ v l.
+      let e : 16 * (v / 16) + v % 16 ≡ v = omega arith in
+      let b = (h.middles (v / 16) (omega arith)).low (v % 16) (omega arith) in
+      rw e at b;
+  masks = h.masks;
+}
