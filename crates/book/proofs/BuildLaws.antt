@@ -21,7 +21,7 @@ use Rattle.cipher.specs.Chain.{mask_into, mask_out_of}
 use Rattle.cipher.specs.Book.{two_kinds, round_part, group_part}
 use Rattle.cipher.proofs.TableLaws.{upper_lt, lower_lt, add_rows, turn_rows, fold_rows}
 use Rattle.table_maker.specs.Rows.{row_by, table_by}
-use Rattle.table_maker.specs.Made.{RoundBytes, RoundReady, codings_of, keyed_by, summands, sum_entries, made_add, upper_part, lower_part, upper_parts, lower_parts, turned_rows, turned_by, itself, made_turn, made_fold}
+use Rattle.table_maker.specs.Made.{RoundReady, codings_of, keyed_by, summands, sum_entries, made_add, upper_part, lower_part, upper_parts, lower_parts, turned_rows, turned_by, itself, made_turn, made_fold}
 use Rattle.table_maker.proofs.InvertedLaws.{inverse_at, inverse_below}
 use Rattle.table_maker.proofs.MadeLaws.{length_add, length_turned}
 
@@ -43,16 +43,6 @@ both_tabled op E n a b g h =
     table_is op E n a (tab 16 b) g (λ x q hx hq. ap (λ (y : ℕ). get_or E (op (a x) y) 0) (get_or_tab 16 b q hq) ∙ h x q hx hq)
 
 -- ---- a round
-
-pub round_bytes_lem : (B A R : List ℕ) → RoundReady B A R → RoundBytes R
-round_bytes_lem B A R h = record {
-  room = h.room_middles;
-  codings = λ v l.
-      let e : 16 * (v / 16) + v % 16 ≡ v = omega arith in
-      let b = (h.middles (v / 16) (omega arith)).low (v % 16) (omega arith) in
-      rw e at b;
-  masks = h.masks;
-}
 
 parts_turn : (i u v : ℕ) → v < 16 → upper_part i u + lower_part i v ≡ turned i u v
 parts_turn zero u v h = omega arith

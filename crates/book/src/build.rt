@@ -17,18 +17,23 @@ use cipher::lengths;
 use cipher::refusal::Refusal;
 use cipher::rows::RoundKeys;
 use cipher::schedules::KeyKind;
+use table_maker::sets::ChainSet;
 
 // The body of the book of a valid chain, into a buffer of its length.
 fn fill(keys: &RoundKeys, chain: &[u8], out: &mut [u8])
     requires { Chain keys.now.size chain.now × (length out.old ≡ rounds_start + round_length * S.rounds keys.now.size) }
     ensures { out.new ≡ book_of (S.rounds keys.now.size) keys.now.rows chain.now }
 {
-    let last = lengths::SET * (keys.size.rounds() + 1);
+    let at = lengths::SET * (keys.size.rounds() + 1);
+    let last = ChainSet {
+        bytes: &chain[at..],
+    };
+    let message = ChainSet { bytes: chain };
     let end = out.len();
-    start(&chain[last..], &mut out[0..lengths::START]);
+    start(last, &mut out[0..lengths::START]);
     groups(
-        &chain[last..],
-        chain,
+        last,
+        message,
         &chain[lengths::SET..],
         subkeys(keys),
         &mut out[lengths::START..lengths::ROUNDS],

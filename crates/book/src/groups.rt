@@ -1,10 +1,9 @@
-// The start of a book and its three groups of fold tables (document 01, "Book"). That a set has
-// permutations is asked of two functions, and is no type: their caller cuts it out of a valid chain.
+// The start of a book and its three groups of fold tables (document 01, "Book").
 ghost use Rattle.std.specs.Prelude.{◌≡◌, ◌+◌, ◌*◌, ◌<◌, ◌≤◌, length};
 ghost use Rattle.cipher.specs.Lengths.{set_length, start_length, group_length};
 ghost use Rattle.lists.specs.Tabulation.{chunks};
 ghost use Rattle.lists.specs.Blocks.{zeros};
-ghost use Rattle.cipher.specs.Coding.{FirstPermutations, set_of, coded};
+ghost use Rattle.cipher.specs.Coding.{set_of, coded};
 ghost use Rattle.cipher.specs.Book.{group_part};
 ghost use Rattle.table_maker.specs.Made.{three_keys};
 
@@ -13,6 +12,7 @@ use cipher::lengths;
 use parts::in_parts;
 use table_maker::folds::fold_tables;
 use table_maker::inverted::InvertedSet;
+use table_maker::sets::ChainSet;
 
 // A byte of the start: the images of zero by the codings of its low half and of its high half.
 fn start_byte(low: u8, high: u8) -> u8
@@ -22,26 +22,26 @@ fn start_byte(low: u8, high: u8) -> u8
     low + 16 * high
 }
 
-// The start: the zero block coded by the set in the front of last.
-pub fn start(last: &[u8], out: &mut [u8])
-    requires { FirstPermutations 32 last.now × (set_length ≤ length last.now) × (length out.old ≡ start_length) }
-    ensures { out.new ≡ coded (set_of last.now) zeros }
+// The start: the zero block coded by the set last.
+pub fn start(last: ChainSet, out: &mut [u8])
+    requires { length out.old ≡ start_length }
+    ensures { out.new ≡ coded (set_of last.entry.bytes.now) zeros }
 {
     for (k, byte) in out.iter_mut().enumerate() {
         let at = 2 * lengths::CODING * k;
-        *byte = start_byte(last[at], last[at + lengths::CODING]);
+        *byte = start_byte(last.bytes[at], last.bytes[at + lengths::CODING]);
     }
 }
 
-// The three groups: folds from the set in the front of last and the message set to that in the
-// front of first, under no key, K1 and K2.
-pub fn groups(last: &[u8], message: &[u8], first: &[u8], keys: SubkeyPair, out: &mut [u8])
-    requires { FirstPermutations 32 last.now × (set_length ≤ length last.now) × FirstPermutations 32 message.now × (set_length ≤ length message.now)
-        × (set_length ≤ length first.now) × (length out.old ≡ 3 * group_length) }
-    ensures { out.new ≡ chunks 3 (λ g. group_part (set_of last.now) (set_of message.now) (set_of first.now) (three_keys keys.k1 keys.k2 g)) }
+// The three groups: folds from the set last and the message set to the set in the front of first,
+// under no key, K1 and K2.
+pub fn groups(last: ChainSet, message: ChainSet, first: &[u8], keys: SubkeyPair, out: &mut [u8])
+    requires { (set_length ≤ length first.now) × (length out.old ≡ 3 * group_length) }
+    ensures { out.new ≡ chunks 3 (λ g. group_part (set_of last.entry.bytes.now) (set_of message.entry.bytes.now) (set_of first.now)
+        (three_keys keys.k1 keys.k2 g)) }
 {
-    let s = InvertedSet::of(last);
-    let u = InvertedSet::of(message);
+    let s = InvertedSet::of(last.bytes);
+    let u = InvertedSet::of(message.bytes);
     let k1 = keys.k1;
     let k2 = keys.k2;
     let blocks = [[0u8; lengths::BLOCK], k1, k2];

@@ -11,7 +11,7 @@ ghost use Rattle.table_maker.specs.Made.{codings_of};
 use cipher::lengths;
 use cipher::rows::RoundKeys;
 use parts::in_parts;
-use table_maker::adds::{Middles, add_tables};
+use table_maker::adds::add_tables;
 use table_maker::inverted::{InvertedSet, InvertedWords};
 use table_maker::rounds::Round;
 use table_maker::turns::{Sealing, turn_tables};
@@ -19,14 +19,11 @@ use table_maker::turns::{Sealing, turn_tables};
 // A round's tables, under the row k of round keys.
 fn round_tables(round: Round, k: [u32; 6], out: &mut [u8])
     requires { length out.old ≡ round_length }
-    ensures { out.new ≡ round_part (codings_of round.entry.before.now round.entry.after.now round.entry.middles.now) k }
+    ensures { out.new ≡ round_part (codings_of round.entry.before.now round.entry.after.now round.entry.middles.bytes.now) k }
 {
     let s = InvertedSet::of(round.before);
-    let m = InvertedWords::of(round.middles);
-    let middles = Middles {
-        bytes: round.middles,
-    };
-    add_tables(&s, middles, k, &mut out[0..lengths::TURNS]);
+    let m = InvertedWords::of(round.middles.bytes);
+    add_tables(&s, round.middles, k, &mut out[0..lengths::TURNS]);
     turn_tables::<Sealing>(
         &m,
         round.after,
@@ -34,8 +31,8 @@ fn round_tables(round: Round, k: [u32; 6], out: &mut [u8])
     );
 }
 
-// The tables of round l of a chain. `reading_book` has one of its own, as it has a round_tables: the rule
-// of its chain is another, and it takes the rows from the last.
+// The tables of round l of a chain. `reading_book` has this and `round_parts` with a chain rule, a row and
+// tables of its own: a trait for these three would be longer than the three lines that both have.
 pub fn round_at(keys: &RoundKeys, chain: &[u8], l: usize, out: &mut [u8])
     requires { Chain keys.now.size chain.now × (l < S.rounds keys.now.size) × (length out.old ≡ round_length) }
     ensures { out.new ≡ book_round (S.rounds keys.now.size) keys.now.rows chain.now l }

@@ -3,12 +3,11 @@
 use mathlib.Core.Path.{◌≡◌, sym, ap, ap₂, ◌∙◌}
 use mathlib.Core.Bool.{Bool, true, false, not, ◌||◌}
 use mathlib.Core.List.{List, ◌++◌}
-use Prim.Native.Nat.{ℕ, ◌*◌, ◌/◌, ◌≤◌, ◌<◌}
+use Prim.Native.Nat.{ℕ, ◌-◌, ◌≤◌, ◌<◌}
 use native.Mathlib.Omega.{arith}
 use lib.Dec.{eqb}
 use lib.ListN.{length, take, drop}
 use lib.Seq.{take_all}
-use Rattle.lists.specs.Tabulation.{chunks}
 use Rattle.lists.specs.Refusals.{first}
 use Rattle.lists.proofs.RefusalLaws.{first_hit, first_pass}
 use Rattle.cipher.specs.KeySize.{rounds}
@@ -17,10 +16,9 @@ use Rattle.cipher.specs.declared.size.KeySize.{KeySize}
 use Rattle.cipher.specs.declared.size.KeySize.TheVariants.{Bytes16, Bytes24, Bytes32}
 use Rattle.std.proofs.Common.{Option, Some, None}
 use Rattle.cipher.proofs.KeySizeLaws.{found_length, none_of, one_of}
-use Rattle.cipher.proofs.AnswerLaws.{block_refused, block_taken_lem, text_known, text_refused, text_taken, room_refused, room_taken}
+use Rattle.cipher.proofs.AnswerLaws.{block_refused, block_taken_lem, text_refused, text_taken, room_refused, room_taken}
 use Rattle.reading.specs.Book.{reading_book_length, size_of_reading_book}
-use Rattle.reading.specs.Shown.{read_text, read_at}
-use Rattle.reading.proofs.ReadLoop.{read_text_lem}
+use Rattle.reading.specs.Shown.{read_text}
 use Rattle.reader.specs.Answers.{reading_rounds_of, read_answer}
 
 -- a reading book has the rounds of its key
@@ -81,14 +79,10 @@ module _ (bk iv cs out : List ℕ) where
             ∙ ap (λ (r : ℕ). ((0, length cs), read_text bk r iv cs ++ drop (length cs) out)) (rounds_known z bk e)
 
         -- as the code makes it
-        pub read_made : length cs ≤ length out → (x : List ℕ) → x ≡ take 16 (drop 0 iv) → (o : List ℕ)
-            → o ≡ chunks (length cs / 16) (read_at bk (rounds z) x cs) ++ drop (16 * (length cs / 16)) out
-            → ((0, length cs), o) ≡ read_answer bk iv cs out
+        pub read_made : length cs ≤ length out → (x : List ℕ) → x ≡ take 16 (drop 0 iv) → (o : List ℕ) → o ≡ read_text bk (rounds z) x cs
+            → ((0, length cs), o ++ drop (length cs - 0) out) ≡ read_answer bk iv cs out
         read_made h x ex o eo =
-            let n : 16 * (length cs / 16) ≡ length cs = omega (arith, (text_known (length cs) d).2) in
             let y : x ≡ iv = ex ∙ take_all 16 iv (omega arith) in
-            ap (λ (l : List ℕ). ((0, length cs), l))
-            (eo
-            ∙ ap₂ (λ (v : List ℕ) (m : ℕ). chunks (length cs / 16) (read_at bk (rounds z) v cs) ++ drop m out) y n
-            ∙ ap (λ (l : List ℕ). l ++ drop (length cs) out) (sym (read_text_lem bk (rounds z) iv cs)))
+            let n : length cs - 0 ≡ length cs = omega arith in
+            ap₂ (λ (l : List ℕ) (m : ℕ). ((0, length cs), l ++ drop m out)) (eo ∙ ap (λ (v : List ℕ). read_text bk (rounds z) v cs) y) n
             ∙ sym (read_done h)

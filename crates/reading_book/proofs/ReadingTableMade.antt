@@ -12,12 +12,11 @@ use Rattle.lists.specs.HalfBytes.{half_byte}
 use Rattle.lists.proofs.TabulationLaws.{length_tab}
 use Rattle.lists.proofs.ChunkLaws.{length_chunks, chunks_ext}
 use Rattle.lists.proofs.HalfByteLaws.{half_lt}
-use Rattle.cipher.specs.Coding.{FirstPermutations, LowSet, coding_at, inverted}
+use Rattle.cipher.specs.Coding.{FirstPermutations, coding_at, inverted}
 use Rattle.cipher.specs.Tables.{add_entry}
 use Rattle.cipher.specs.Lengths.{turn_length}
 use Rattle.cipher.specs.Chain.{mask_into, mask_out_of}
 use Rattle.cipher.specs.Book.{two_kinds}
-use Rattle.cipher.proofs.InverseLaws.{low_set}
 use Rattle.reading.specs.Lengths.{subtract_length}
 use Rattle.reading.specs.LikeSealing.{cut_of, sum_coding}
 use Rattle.reading.specs.Tables.{upper_back, lower_back, turn_back_table, subtract_table}
@@ -71,12 +70,9 @@ subtract_made m n A R K a b e p k l c ea eb ee ec ek el = rw (ea, eb, ee, ec, ek
 
 -- ---- a round
 
--- the words 0 to 2 of a set of permutations, and its bytes
+-- the words 0 to 2 of a set of permutations
 pub three_words_lem : (s : List ℕ) → FirstPermutations 32 s → FirstPermutations 24 s
 three_words_lem s h k hk = h k (omega arith)
-
-pub set_low : (s : List ℕ) → FirstPermutations 32 s → LowSet s
-set_low s h = low_set s (λ w j hw hj. h (8 * w + j) (omega arith))
 
 module _ (B A R K : List ℕ) (ready : RoundReady B A R) where
   turn_back_of : (p : ℕ) → p < 24 → made_turn_back (inverted 24 B) R p ≡ tab turn_length (turn_back_table (codings_of B A R) (p / 8) (p % 8))

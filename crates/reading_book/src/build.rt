@@ -5,7 +5,7 @@ ghost use Rattle.lists.specs.Blocks.{zeros};
 ghost use Rattle.cipher.specs.KeySize as S;
 ghost use Rattle.cipher.specs.Lengths.{set_length, group_length};
 ghost use Rattle.cipher.specs.Refusal.{outcome_of};
-ghost use Rattle.cipher.specs.Coding.{FirstPermutations, set_of};
+ghost use Rattle.cipher.specs.Coding.{set_of};
 ghost use Rattle.cipher.specs.Book.{group_part};
 ghost use Rattle.reading.specs.Chain.{ReadingChain};
 ghost use Rattle.reading.specs.Book.{reading_book_of, reading_book_length};
@@ -20,16 +20,15 @@ use cipher::schedules::KeyKind;
 use reading::lengths::reading_len;
 use table_maker::folds::fold_tables;
 use table_maker::inverted::InvertedSet;
+use table_maker::sets::ChainSet;
 
-// The group: folds from the sets in the fronts of last and of before to that in the front of first,
-// under no key. Permutations are asked as in crate book.
-fn group(last: &[u8], before: &[u8], first: &[u8], out: &mut [u8])
-    requires { FirstPermutations 32 last.now × (set_length ≤ length last.now) × FirstPermutations 32 before.now × (set_length ≤ length before.now)
-        × (set_length ≤ length first.now) × (length out.old ≡ group_length) }
-    ensures { out.new ≡ group_part (set_of last.now) (set_of before.now) (set_of first.now) zeros }
+// The group: folds from the sets last and before to the set in the front of first, under no key.
+fn group(last: ChainSet, before: ChainSet, first: &[u8], out: &mut [u8])
+    requires { (set_length ≤ length first.now) × (length out.old ≡ group_length) }
+    ensures { out.new ≡ group_part (set_of last.entry.bytes.now) (set_of before.entry.bytes.now) (set_of first.now) zeros }
 {
-    let s = InvertedSet::of(last);
-    let u = InvertedSet::of(before);
+    let s = InvertedSet::of(last.bytes);
+    let u = InvertedSet::of(before.bytes);
     fold_tables(&s, &u, first, [0u8; lengths::BLOCK], out);
 }
 
@@ -40,16 +39,17 @@ fn fill(keys: &RoundKeys, chain: &[u8], out: &mut [u8])
     ensures { out.new ≡ reading_book_of (S.rounds keys.now.size) keys.now.rows chain.now }
 {
     let r = keys.size.rounds();
-    let last = lengths::SET * (r + 1);
+    let at = lengths::SET * (r + 1);
+    let last = ChainSet {
+        bytes: &chain[at..],
+    };
+    let before = ChainSet {
+        bytes: &chain[lengths::SET..],
+    };
     let from = lengths::ROUND_TABLES * r;
     let end = from + lengths::GROUP;
     round_parts(keys, chain, &mut out[0..from]);
-    group(
-        &chain[last..],
-        &chain[lengths::SET..],
-        chain,
-        &mut out[from..end],
-    );
+    group(last, before, chain, &mut out[from..end]);
 }
 
 // The reading book of a key and a reading chain, into the front of out.

@@ -14,7 +14,6 @@ use cipher::lengths;
 use cipher::rows::RoundKeys;
 use parts::in_parts;
 use reading::lengths::SUBTRACTS;
-use table_maker::adds::Middles;
 use table_maker::inverted::InvertedWords;
 use table_maker::rounds::Round;
 use table_maker::turns::turn_tables;
@@ -22,26 +21,17 @@ use table_maker::turns::turn_tables;
 // A round's tables, under the row k of round keys. Of each set the words 0 to 2 are decoded.
 fn round_tables(round: Round, k: [u32; 6], out: &mut [u8])
     requires { length out.old ≡ round_length }
-    ensures { out.new ≡ reading_part (codings_of round.entry.before.now round.entry.after.now round.entry.middles.now) k }
+    ensures { out.new ≡ reading_part (codings_of round.entry.before.now round.entry.after.now round.entry.middles.bytes.now) k }
 {
     let s = InvertedWords::of(round.before);
-    let m = InvertedWords::of(round.middles);
+    let m = InvertedWords::of(round.middles.bytes);
     let n = InvertedWords::of(round.after);
-    let middles = Middles {
-        bytes: round.middles,
-    };
-    turn_tables::<Reading>(&s, round.middles, &mut out[0..SUBTRACTS]);
-    subtract_tables(
-        &m,
-        &n,
-        round.after,
-        middles,
-        k,
-        &mut out[SUBTRACTS..lengths::ROUND_TABLES],
-    );
+    turn_tables::<Reading>(&s, round.middles.bytes, &mut out[0..SUBTRACTS]);
+    subtract_tables(&m, &n, round, k, &mut out[SUBTRACTS..lengths::ROUND_TABLES]);
 }
 
-// The tables of round l of a reading chain; the last row of round keys is that of round 0.
+// The tables of round l of a reading chain; the last row of round keys is that of round 0. Crate book
+// says beside its own why this and `round_parts` are not one function with those.
 fn round_at(keys: &RoundKeys, chain: &[u8], l: usize, out: &mut [u8])
     requires { ReadingChain keys.now.size chain.now × (l < S.rounds keys.now.size) × (length out.old ≡ round_length) }
     ensures { out.new ≡ reading_book_round (S.rounds keys.now.size) keys.now.rows chain.now l }

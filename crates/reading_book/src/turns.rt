@@ -1,6 +1,5 @@
 // The turns of a reading book (document 02, 2026-01), from the codings of the set before a round to its
 // middle codings.
-ghost use Rattle.std.specs.Prelude.{◌≡◌, ◌<◌};
 ghost use Rattle.reading.specs.Tables.{upper_back, lower_back};
 ghost use Rattle.reading.specs.LikeSealing.{cut_of};
 

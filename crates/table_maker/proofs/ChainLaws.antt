@@ -8,7 +8,7 @@ use Rattle.cipher.specs.Coding.{FirstPermutations}
 use Rattle.cipher.specs.KeySize.{rounds}
 use Rattle.cipher.specs.Chain.{ChainBy, round_bytes, round_codings}
 use Rattle.cipher.specs.declared.size.KeySize.{KeySize}
-use Rattle.table_maker.specs.Made.{RoundReady, codings_of}
+use Rattle.table_maker.specs.Made.{RoundBytes, RoundReady, codings_of}
 
 module _ {from to : ℕ} (z : KeySize) (ch : List ℕ) (h : ChainBy from to z ch) where
   pub sets_permute : (l : ℕ) → l ≤ rounds z → FirstPermutations 32 (drop (512 * suc l) ch)
@@ -51,3 +51,14 @@ module _ {from to : ℕ} (z : KeySize) (ch : List ℕ) (h : ChainBy from to z ch
     pub codings_at : codings_of B A R ≡ round_codings (rounds z) ch l
     unfolding codings_of round_codings
     codings_at = rw (eB, eA, eR, eb, ea, en)
+
+-- the bytes of a round are half bytes, and masks that are bits
+pub round_bytes_lem : (B A R : List ℕ) → RoundReady B A R → RoundBytes R
+round_bytes_lem B A R h = record {
+  room = h.room_middles;
+  codings = λ v l.
+      let e : 16 * (v / 16) + v % 16 ≡ v = omega arith in
+      let b = (h.middles (v / 16) (omega arith)).low (v % 16) (omega arith) in
+      rw e at b;
+  masks = h.masks;
+}

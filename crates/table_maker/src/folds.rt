@@ -1,8 +1,7 @@
 // Fold tables (01's term), from inverted codings.
-ghost use Rattle.std.specs.Prelude.{◌≡◌, ◌+◌, ◌*◌, ◌/◌, ◌%◌, ◌<◌, ◌≤◌, length};
+ghost use Rattle.std.specs.Prelude.{◌≡◌, ◌*◌, ◌/◌, ◌%◌, ◌<◌, ◌≤◌, length};
 ghost use Rattle.cipher.specs.Lengths.{fold_length, group_length, set_length};
 ghost use Rattle.lists.specs.Tabulation.{chunks};
-ghost use Rattle.lists.specs.HalfBytes.{half_byte};
 ghost use Rattle.cipher.specs.Coding.{block_half};
 ghost use Rattle.table_maker.specs.Made.{made_fold};
 

@@ -2,7 +2,6 @@
 ghost use Rattle.std.specs.Prelude.{◌≡◌, ◌*◌, ◌/◌, ◌≤◌, length};
 ghost use Rattle.lists.specs.Blocks.{Below};
 ghost use Rattle.cipher.specs.Coding.{FirstPermutations, inverted};
-ghost use Rattle.cipher.specs.Lengths.{coding_length};
 
 use cipher::invert::invert;
 use cipher::lengths;
@@ -15,7 +14,8 @@ pub struct Inverted<const N: usize> {
 }
 
 impl<const N: usize> Inverted<N> {
-    // The codings in the front of a slice inverted.
+    // The codings in the front of a slice inverted. That they are permutations is asked: a type would be one for each
+    // N, to be made of a ChainSet, of its first 24 codings or of a chain's bytes for a round before each call.
     pub fn of(codings: &[u8]) -> Inverted<N>
         requires { (N ≡ N / 16 * 16) × (N ≤ length codings.now) × FirstPermutations (N / 16) codings.now }
         ensures { result.bytes ≡ inverted (N / 16) codings.now }

@@ -8,4 +8,5 @@ pub mod folds;
 pub mod inverted;
 pub mod rounds;
 pub mod rows;
+pub mod sets;
 pub mod turns;

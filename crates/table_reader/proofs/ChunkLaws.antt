@@ -1,4 +1,4 @@
--- The parts of equal length that `as_chunks` makes of a slice, of which the first n are gone through.
+-- The parts of equal length that `as_chunks` makes of a slice, of which all or the first n are gone through.
 use Rattle.std.proofs.Common.{◌≡◌, ℕ, zero, suc, ◌*◌, ◌≤◌, ◌<◌, List, [], length, get_or, take, drop, refl, ap, ◌∙◌, arith}
 use native.Mathlib.Nat.{mul-zero, mul-suc}
 use Rattle.std.proofs.lemmas.List.{length-take, length-take-le}
@@ -23,12 +23,15 @@ count : (s k : ℕ) (ys : List ℕ) → length (first_chunks s k ys) ≡ k
 count s zero ys = refl
 count s (suc k) ys = ap suc (count s k (drop s ys))
 
+pub chunk_count : (s k : ℕ) (ys : List ℕ) (cs : List (List ℕ)) → cs ≡ first_chunks s k ys → length cs ≡ k
+chunk_count s k ys cs e = ap length e ∙ count s k ys
+
 -- of the first n
 pub chunk_lent : (s n k l : ℕ) (ys : List ℕ) (cs : List (List ℕ)) → cs ≡ first_chunks s k ys → l < length (take n cs)
     → get_or (take n cs) l [] ≡ take s (drop (s * l) ys)
 chunk_lent s n k l ys cs e h =
     let r = length-take n cs in
-    let q : length cs ≡ k = ap length e ∙ count s k ys in
+    let q = chunk_count s k ys cs e in
     get_or-take n cs l [] (omega arith) ∙ chunk_is s k l ys cs e (omega arith)
 
 pub lent_count : (s n k : ℕ) (ys : List ℕ) (cs : List (List ℕ)) → cs ≡ first_chunks s k ys → n ≤ k → length (take n cs) ≡ n

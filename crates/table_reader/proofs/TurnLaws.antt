@@ -5,13 +5,13 @@ use Prim.Native.Nat.{ℕ, ◌+◌, ◌*◌, ◌%◌, ◌<◌}
 use native.Mathlib.Nat.{zero-add}
 use native.Mathlib.Omega.{arith}
 use lib.Dec.{lit<}
-use lib.ListN.{get_or, length}
+use lib.ListN.{get_or}
 use Rattle.lists.specs.Blocks.{Bytes}
 use Rattle.cipher.specs.Coding.{block_half}
 use Rattle.cipher.specs.Tables.{upper, lower, sum_at, new_at, half_after, table_round}
 use Rattle.table_reader.specs.Reading.{byte_of, sum_bytes, turn_half, turn_byte}
 use Rattle.table_reader.proofs.ReadingLaws.{half_lo, half_hi, four}
-use Rattle.table_reader.proofs.Columns.{byte_same, Columns, columns_first, four_columns, four_full, three_half}
+use Rattle.table_reader.proofs.Columns.{byte_same, Columns, four_columns, four_full, three_half}
 use Rattle.table_reader.proofs.SumLaws.{sum_lt}
 
 -- a byte is its two halves
@@ -36,9 +36,6 @@ module _ (t b : List ℕ) where
 -- the first m bytes of each new word are made in y, in place of those of the block x
 abbrev pub TurnsAre : List ℕ → List ℕ → ℕ → List ℕ → Type 0
 TurnsAre t x m y = Columns 4 (byte_of (half_after t x)) x m y
-
-pub turns_first : (t x : List ℕ) → length x ≡ 16 → TurnsAre t x 0 x
-turns_first t x h = columns_first 4 (byte_of (half_after t x)) x h
 
 pub turns_step : (t s x y : List ℕ) (m u v w : ℕ) → m < 4 → Bytes x → s ≡ sum_bytes t x → TurnsAre t x m y
     → u ≡ turn_byte t s 0 m 6 5 → v ≡ turn_byte t s 1 m 2 1 → w ≡ turn_byte t s 2 m 1 0

@@ -1,7 +1,7 @@
 // Entries of the tables of a round, and what is read of them: a half byte and, of an add entry, a
 // carry.
 ghost use Rattle.std.specs.Prelude.{◌≡◌, ◌+◌, ◌*◌, ◌/◌, ◌%◌, ◌<◌, ◌≤◌, length, get_or};
-ghost use Rattle.cipher.specs.Lengths.{adds_length, add_length, turn_length};
+ghost use Rattle.cipher.specs.Lengths.{adds_length, add_length, turn_length, round_length};
 
 use cipher::lengths;
 
@@ -45,8 +45,8 @@ pub fn add_at(t: &[u8], k: usize, c: usize, p: usize, q: usize) -> u8
 }
 
 // An entry of turn table k of those in t.
-pub fn turn_at(t: &RoundTables, k: usize, p: usize, q: usize) -> u8
-    requires { (k < 24) × (p < 16) × (q < 16) }
+pub fn turn_at(t: &[u8], k: usize, p: usize, q: usize) -> u8
+    requires { (k < 24) × (p < 16) × (q < 16) × (round_length ≤ length t.now) }
     ensures { result ≡ get_or t.now (adds_length + turn_length * k + (16 * p + q)) 0 }
 {
     t[lengths::TURNS + lengths::TURN * k + (16 * p + q)]

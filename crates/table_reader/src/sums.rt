@@ -1,10 +1,10 @@
 // The three sums of a round by its add tables, two half bytes at a time and the three words side by
 // side, so that no lookup waits for another word's.
 ghost use Rattle.std.specs.Prelude.{◌≡◌, ◌+◌, ◌*◌, ◌<◌, ◌≤◌, length};
-ghost use Rattle.cipher.specs.Lengths.{add_length};
+ghost use Rattle.cipher.specs.Lengths.{add_length, round_length};
 ghost use Rattle.table_reader.specs.Reading.{TwoIs, sum_bytes};
 
-use crate::entry::{RoundTables, add_at, carry, high, joined, low};
+use crate::entry::{add_at, carry, high, joined, low};
 
 // Two half bytes of a sum, the lower one in the low half, and the carry out of them.
 // The carry is a number: the index of the next entry is made of it, and a bool would be turned back there.
@@ -28,7 +28,8 @@ pub fn add_two(t: &[u8], k: usize, c: usize, x: u8, y: u8) -> Two
 }
 
 // The sums of a block, four bytes each.
-pub fn sums(t: &RoundTables, b: [u8; 16]) -> [u8; 12]
+pub fn sums(t: &[u8], b: [u8; 16]) -> [u8; 12]
+    requires { round_length ≤ length t.now }
     ensures { result ≡ sum_bytes t.now b }
 {
     let mut s = [0u8; 12];

@@ -12,22 +12,24 @@ use Rattle.table_maker.proofs.ChainLaws.{message_permutes}
 use Rattle.book.proofs.WholeLaws.{set_in, start_length_lem, groups_length, groups_room, after_length, rounds_room, all_joined, all_length, rounds_length, after_first, book_is}
 use Rattle.book.proofs.build.fill.Goals as goal
 
-pub start-requires : goal.start-requires
-start-requires c =
+pub invariant_of-last : goal.invariant_of-last
+invariant_of-last c =
     let ch = c.args.chain.now in
     let q = c.rounds.result in
     let s = set_in c.args.keys.now.size ch _ q c.requires.0 (le_of_eq c.rounds.ensures) (part_end ch (512 * (q + 1))) in
-    (s.0, s.1, length-take-le 16 c.args.out.now (omega arith))
+    record { permuted = s.0; room = s.1 }
+
+pub invariant_of-message : goal.invariant_of-message
+invariant_of-message c =
+    let ch = c.args.chain.now in
+    record { permuted = message_permutes c.args.keys.now.size ch c.requires.0; room = omega (arith, c.requires.0.size) }
+
+pub start-requires : goal.start-requires
+start-requires c = length-take-le 16 c.args.out.now (omega arith)
 
 pub groups-requires : goal.groups-requires
 groups-requires c =
-    let ch = c.args.chain.now in
-    let q = c.rounds.result in
-    let s = set_in c.args.keys.now.size ch _ q c.requires.0 (le_of_eq c.rounds.ensures) (part_end ch (512 * (q + 1))) in (
-      s.0,
-      s.1,
-      message_permutes c.args.keys.now.size ch c.requires.0,
-      omega (arith, c.requires.0.size),
+    let ch = c.args.chain.now in (
       after_first ch (omega (arith, c.requires.0.size)),
       groups_room c.start.new.out c.args.out.now _ (rounds c.args.keys.now.size) (start_length_lem _ _ c.start.ensures) c.requires.1
           c.requires.1,

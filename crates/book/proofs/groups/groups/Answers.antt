@@ -9,5 +9,5 @@ use Rattle.book.proofs.groups.groups.Goals as goal
 pub returns : goal.returns
 returns c =
     let a = c.args in
-    c.in_parts.ensures (λ g. group_part (set_of a.last.now) (set_of a.message.now) (set_of a.first.now) (three_keys a.keys.k1 a.keys.k2 g)) (λ p part left l e w.
-    group_made a.last.now a.message.now a.first.now a.keys.k1 a.keys.k2 _ _ left.now p c.of-s.ensures c.of-u.ensures l (search rules))
+    c.in_parts.ensures (λ g. group_part (set_of a.last.bytes.now) (set_of a.message.bytes.now) (set_of a.first.now) (three_keys a.keys.k1 a.keys.k2 g)) (λ p part left l e w.
+    group_made a.last.bytes.now a.message.bytes.now a.first.now a.keys.k1 a.keys.k2 _ _ left.now p c.of-s.ensures c.of-u.ensures l (search rules))

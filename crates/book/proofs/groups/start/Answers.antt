@@ -13,17 +13,17 @@ loop-k-init c = (omega arith, refl, refl)
 
 pub start_byte-requires : goal.start_byte-requires
 start_byte-requires c =
-    start_low c.args.last.now c.requires.0 c.loop-k.k (omega arith)
+    start_low c.args.last.bytes.now c.args.last.permuted c.loop-k.k (omega arith)
 
 pub loop-k-preserved : goal.loop-k-preserved
 loop-k-preserved c = (
   omega arith,
   simp length-set c.loop-k.invariant.1,
-  tab_turn (start_byte c.args.last.now) _ _ _ _ c.loop-k.invariant.2 c.start_byte.ensures (omega arith),
+  tab_turn (start_byte c.args.last.bytes.now) _ _ _ _ c.loop-k.invariant.2 c.start_byte.ensures (omega arith),
 )
 
 pub shape_of-out : goal.shape_of-out
 shape_of-out c = c.loop-k.invariant.1
 
 pub returns : goal.returns
-returns c = tab_full _ _ _ 16 c.loop-k.k c.loop-k.invariant.2 (omega arith) (omega arith) ∙ start_is c.args.last.now
+returns c = tab_full _ _ _ 16 c.loop-k.k c.loop-k.invariant.2 (omega arith) (omega arith) ∙ start_is c.args.last.bytes.now

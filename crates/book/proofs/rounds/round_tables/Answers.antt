@@ -3,11 +3,8 @@ use mathlib.Core.Path.{◌∙◌}
 use native.Mathlib.Omega.{arith}
 use lib.Seq.{length-take-le}
 use Rattle.lists.proofs.TwoParts.{second_length, two_joined, two_length}
-use Rattle.book.proofs.BuildLaws.{round_bytes_lem, adds_length_lem, turns_length, round_joined}
+use Rattle.book.proofs.BuildLaws.{adds_length_lem, turns_length, round_joined}
 use Rattle.book.proofs.rounds.round_tables.Goals as goal
-
-pub invariant_of-middles : goal.invariant_of-middles
-invariant_of-middles c = record { valid = round_bytes_lem _ _ _ c.args.round.ready }
 
 pub add_tables-requires : goal.add_tables-requires
 add_tables-requires c = length-take-le 12288 c.args.out.now (omega arith)

@@ -5,14 +5,14 @@ use Rattle.reader.proofs.BlockLoops.{rounded_none, rounded_more, rounded_all}
 use Rattle.reader.proofs.blocks.rounds.Goals as goal
 
 pub loop-t-init : goal.loop-t-init
-loop-t-init c = rounded_none _ _ _ c.requires.3
+loop-t-init c = rounded_none _ _ c.requires.2
 
 pub loop-t-preserved : goal.loop-t-preserved
 loop-t-preserved c =
     let o = c.round_of in
-    rounded_more _ _ _ c.requires.3 _ _ _ _ _ _ c.as_chunks.ensures.front c.loop-t-test.true o.auto.out c.loop-t.invariant o.ensures
+    rounded_more _ _ c.requires.2 _ _ _ _ _ _ c.as_chunks.ensures.front c.loop-t-test.true o.auto.out c.loop-t.invariant o.ensures
 
 pub returns : goal.returns
 returns c =
-    rounded_all _ _ _ c.requires.3 c.loop-t.t-index c.args.r _
+    rounded_all _ _ c.requires.2 c.loop-t.t-index c.args.r _
     (omega (arith, lent_count 18432 c.args.r _ _ _ c.as_chunks.ensures.front (omega (arith, c.requires.1)))) c.loop-t.invariant

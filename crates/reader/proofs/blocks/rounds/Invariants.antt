@@ -3,4 +3,4 @@ use Rattle.reader.proofs.BlockLoops.{Rounded}
 use Rattle.reader.proofs.blocks.rounds.Given as goal
 
 abbrev pub invariant-loop-t : goal.invariant-loop-t
-invariant-loop-t l = Rounded l.book l.initial.out l.n l.t-index l.out
+invariant-loop-t l = Rounded l.book l.initial.out l.t-index l.out

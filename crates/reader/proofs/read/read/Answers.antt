@@ -1,5 +1,6 @@
 -- `read::read` meets its contract.
-use Rattle.std.proofs.Common.{sym, ap, ◌∙◌, arith}
+use Rattle.std.proofs.Common.{refl, sym, ap, ◌∙◌, arith}
+use Rattle.lists.proofs.TwoParts.{room_length}
 use Rattle.cipher.specs.Refusal.{number_of, written_of}
 use Rattle.cipher.proofs.PassedLaws.{passed, or_none}
 use Rattle.cipher.proofs.AnswerLaws.{text_known}
@@ -29,7 +30,7 @@ returns-then-out-n c =
 pub read_blocks-requires : goal.read_blocks-requires
 read_blocks-requires c =
     let good = text_known _ (sym c.bad_text.ensures ∙ c.if-bad_text.false) in
-    (book_found _ _ _ c.of_reading_len.ensures c.in_ok-size.ensures.ok_part, omega (arith, good.1), omega (arith, good.2), omega (arith, c.if-out-n.false))
+    (book_found _ _ _ c.of_reading_len.ensures c.in_ok-size.ensures.ok_part, good.2, room_length _ _ c.args.out.now refl (omega (arith, c.if-out-n.false)))
 
 pub returns : goal.returns
 returns c =

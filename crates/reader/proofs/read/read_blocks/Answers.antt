@@ -1,12 +1,9 @@
 -- `read::read_blocks` meets its contract.
 use mathlib.Core.Path.{ap, ◌∙◌}
-use mathlib.Core.List.{◌++◌}
-use Prim.Native.Nat.{ℕ, ◌*◌}
+use Prim.Native.Nat.{ℕ}
 use native.Mathlib.Omega.{arith}
-use lib.ListN.{drop}
-use Rattle.lists.specs.Tabulation.{chunks}
 use Rattle.cipher.proofs.KeySizeLaws.{rounds_more}
-use Rattle.reading.specs.Shown.{read_at}
+use Rattle.reading.specs.Shown.{read_text}
 use Rattle.reader.proofs.BlockLoops.{group_is, read_is}
 use Rattle.reader.proofs.read.read_blocks.Goals as goal
 
@@ -14,6 +11,6 @@ pub returns : goal.returns
 returns c =
     let a = c.args in
     let q = c.rounds-r.result in
-    read_is a.book.now a.iv a.sealed.now a.out.now q a.n (omega (arith, c.rounds-r.ensures, rounds_more a.size)) c.requires.2 c.requires.3 _ _ _ _
-    c.copy.ensures c.rounds.ensures (λ x y. group_is a.book.now q _ x y (omega (arith, c.rounds-r.ensures, c.requires.0)) c.as_chunks.ensures.front) c.folds.ensures
-    ∙ ap (λ (r : ℕ). chunks a.n (read_at a.book.now r a.iv a.sealed.now) ++ drop (16 * a.n) a.out.now) c.rounds-r.ensures
+    read_is a.book.now a.iv a.sealed.now q (omega (arith, c.rounds-r.ensures, rounds_more a.size)) c.requires.1 _ _ _ _
+    c.copy_from_slice.ensures.after c.rounds.ensures (λ x y. group_is a.book.now q _ x y (omega (arith, c.rounds-r.ensures, c.requires.0)) c.as_chunks.ensures.front) c.folds.ensures
+    ∙ ap (λ (r : ℕ). read_text a.book.now r a.iv a.sealed.now) c.rounds-r.ensures

@@ -3,12 +3,8 @@ use mathlib.Core.Path.{◌∙◌}
 use native.Mathlib.Omega.{arith}
 use lib.Seq.{length-take-le}
 use Rattle.lists.proofs.TwoParts.{second_length, two_joined, two_length}
-use Rattle.book.proofs.BuildLaws.{round_bytes_lem}
-use Rattle.reading_book.proofs.ReadingTableMade.{set_low, turns_back_length, subtracts_length, reading_joined}
+use Rattle.reading_book.proofs.ReadingTableMade.{turns_back_length, subtracts_length, reading_joined}
 use Rattle.reading_book.proofs.rounds.round_tables.Goals as goal
-
-pub invariant_of-middles : goal.invariant_of-middles
-invariant_of-middles c = record { valid = round_bytes_lem _ _ _ c.args.round.ready }
 
 pub turn_tables-requires : goal.turn_tables-requires
 turn_tables-requires c = (omega (arith, c.args.round.ready.room_middles), length-take-le 6144 c.args.out.now (omega arith))
@@ -17,7 +13,7 @@ pub subtract_tables-requires : goal.subtract_tables-requires
 subtract_tables-requires c =
     let t = turns_back_length _ _ _ c.turn_tables.ensures in
     let r = second_length c.turn_tables.new.out c.args.out.now c.args.out.now 6144 12288 c.requires t in
-    (c.args.round.ready.room_after, set_low c.args.round.after.now c.args.round.ready.after, r)
+    r
 
 pub shape_of-out : goal.shape_of-out
 shape_of-out c =

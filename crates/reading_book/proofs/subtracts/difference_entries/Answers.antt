@@ -9,4 +9,4 @@ pub returns : goal.returns
 unfolding add_entry
 returns c =
     let a = c.args in
-    tab_from_fn _ _ _ (difference_entries a.after.now a.round.bytes.now a.l a.p) 32 (λ i y q b w. search rules) c.from_fn.ensures.items
+    tab_from_fn _ _ _ (difference_entries a.round.after.now a.round.middles.bytes.now a.l a.p) 32 (λ i y q b w. search rules) c.from_fn.ensures.items

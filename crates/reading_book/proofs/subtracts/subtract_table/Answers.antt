@@ -12,12 +12,12 @@ row_summands-a-requires c =
 
 pub difference_entries-e-requires : goal.difference_entries-e-requires
 difference_entries-e-requires c =
-    (c.requires.0, c.half-2.ensures.1, c.requires.1, c.requires.2)
+    (c.requires.0, c.half-2.ensures.1)
 
 pub table-requires : goal.table-requires
 table-requires c =
     add_fits c.args.m.now.bytes c.args.n.now.bytes _ _ _ _ _ _ _ _ _ _ c.row_summands-a.ensures c.keyed-b.ensures c.difference_entries-e.ensures
-    c.args.m.now.low c.args.n.now.low (lit< tt) c.half.ensures.1 c.mask_in.ensures.1 c.requires.3
+    c.args.m.now.low c.args.n.now.low (lit< tt) c.half.ensures.1 c.mask_in.ensures.1 c.requires.1
 
 pub returns : goal.returns
 returns c =
