@@ -29,6 +29,7 @@ fn same(a: [u8; 16], b: &[u8]) -> bool
 
 // Whether a tag, coded by set r, is that of a message under a key, or why there is no verdict. The
 // message's own tag is coded and compared.
+// The schedule stays a number, as the C interface has it.
 pub fn check(
     schedule: u8,
     key: &[u8],

@@ -1,6 +1,7 @@
 // Building a book, or the tables of one round of it, from a key and a chain (document 01, "Book"; 02,
 // 2026-05). Refusals 34 and 1 to 5 are those of schedule, key and chain; 9 is a buffer shorter than what
 // is written.
+// The schedule stays a number, as the C interface has it.
 ghost use Rattle.std.specs.Prelude.{◌≡◌, ◌+◌, ◌*◌, length};
 ghost use Rattle.cipher.specs.KeySize as S;
 ghost use Rattle.cipher.specs.Lengths.{round_length, rounds_start};

@@ -2,7 +2,7 @@
 -- refusal is given exactly under its condition.
 use mathlib.Core.Path.{◌≡◌, sym, ap, ap₂, ◌∙◌}
 use mathlib.Core.Bool.{true, false, cond, not}
-use mathlib.Core.List.{List, [], ◌++◌, flatten}
+use mathlib.Core.List.{List, [], ◌++◌}
 use Prim.Native.Nat.{ℕ, suc, min, ◌+◌, ◌*◌, ◌/◌, ◌≤◌, ◌<◌}
 use native.Mathlib.Numerals.{add-one}
 use native.Mathlib.Omega.{arith}
@@ -12,7 +12,7 @@ use borrow.Author.Tests.{eq-eqb, ne_eqb, le-leb, lt-leb, lt-ltb, le-ltb}
 use lib.Dec.{eqb, leb, ltb}
 use lib.ListN.{length, take, drop}
 use lib.Seq.{take_all}
-use Rattle.lists.specs.Blocks.{zeros, cut, blocks}
+use Rattle.lists.specs.Blocks.{zeros}
 use Rattle.lists.specs.Refusals.{first}
 use Rattle.lists.proofs.RefusalLaws.{first_hit, first_pass}
 use Rattle.cipher.specs.KeySize.{rounds}
@@ -25,7 +25,7 @@ use Rattle.cipher.specs.Answers.{block_tests, bad_text, text_tests, room_tests}
 use Rattle.cipher.specs.declared.size.KeySize.{KeySize}
 use Rattle.std.proofs.Common.{Some, None}
 use Rattle.cipher.proofs.AnswerLaws.{at_most, at_most_all, block_refused, block_taken_lem, text_known, text_refused, text_taken, room_refused, room_taken}
-use Rattle.driver.specs.Driver.{admit_answer, rounds_of, run_round_answer, run_rounds_answer, pass, passed_from, sealed, seal_answer}
+use Rattle.driver.specs.Driver.{admit_answer, rounds_of, run_round_answer, run_rounds_answer, pass, sealed, seal_answer}
 use Rattle.driver.specs.Driver.{fresh, spent, moved, closed, begun_over, begin_answer, kind_tests, finished_tests, full_tests, block_answer, last_answer}
 use Rattle.driver.specs.declared.session.Session.{Session}
 use Rattle.driver.proofs.PassLaws.{rounds_known}
@@ -133,13 +133,12 @@ module _ (bk iv cs out : List ℕ) where
 
         -- as the code makes it
         pub seal_made : length cs ≤ length out → (t x : List ℕ) → t ≡ book_body bk → x ≡ take 16 (drop 0 iv) → (o : List ℕ)
-            → o ≡ flatten (passed_from (pass t 0) x (cut (length cs / 16) cs)) ++ drop (16 * (length cs / 16)) out
+            → o ≡ sealed t x cs ++ drop (16 * (length cs / 16)) out
             → ((0, length cs), o) ≡ seal_answer bk iv cs out
-        unfolding blocks
         seal_made h t x et ex o eo =
             let n : 16 * (length cs / 16) ≡ length cs = omega (arith, (text_known (length cs) d).2) in
             let y = ex ∙ whole iv l in
-            ap (λ (l : List ℕ). ((0, length cs), l)) (eo ∙ (λ i. flatten (passed_from (pass (et i) 0) (y i) (cut (length cs / 16) cs)) ++ drop (n i) out))
+            ap (λ (l : List ℕ). ((0, length cs), l)) (eo ∙ (λ i. sealed (et i) (y i) cs ++ drop (n i) out))
             ∙ sym (seal_done h)
 
 -- ---- beginning

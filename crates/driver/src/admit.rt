@@ -1,8 +1,9 @@
 // A book (01's term) as every operation takes it: what is admitted, and its body, which all below reads.
-ghost use Rattle.std.specs.Prelude.{◌≡◌, ◌≤◌, length};
+ghost use Rattle.std.specs.Prelude.{◌≡◌, ◌≤◌, Some, None, IfOk, IfErr, length};
 ghost use Rattle.cipher.specs.Lengths.{body_start};
 ghost use Rattle.cipher.specs.Book.{book_body};
-ghost use Rattle.driver.specs.Driver.{admitted_told, admit_answer};
+ghost use Rattle.cipher.specs.Refusal.{number_of};
+ghost use Rattle.driver.specs.Driver.{admitted_told, admit_answer, body_length};
 
 use cipher::invert::wide;
 use cipher::lengths;
@@ -27,4 +28,26 @@ pub fn body(book: &[u8]) -> &[u8]
     ensures { result.now ≡ book_body book.now }
 {
     &book[lengths::BODY..]
+}
+
+// What the operations have of a book that was admitted: the size of its key, and its body.
+#[derive(Clone, Copy)]
+pub struct Book<'a> {
+    pub size: KeySize,
+    pub body: &'a [u8],
+    ghost whole: { length body.now ≡ body_length size },
+}
+
+impl<'a> Book<'a> {
+    // The parts of a book, or why it is refused, as the function `admit` says.
+    pub fn admit(book: &'a [u8]) -> Result<Book<'a>, Refusal>
+        ensures taken { IfOk result (λ b. (admit_answer book.now ≡ (0, Some b.size)) × (b.body.now ≡ book_body book.now)) }
+        ensures refused { IfErr result (λ q. admit_answer book.now ≡ (number_of q, None)) }
+    {
+        let size = admit(book)?;
+        Ok(Book {
+            size,
+            body: body(book),
+        })
+    }
 }

@@ -5,7 +5,7 @@ ghost use Rattle.std.specs.Prelude.{◌≡◌};
 ghost use Rattle.cipher.specs.Answers.{block_told};
 ghost use Rattle.driver.specs.Driver.{run_round_answer, run_rounds_answer};
 
-use crate::admit::{admit, body};
+use crate::admit::Book;
 use cipher::block::block_at;
 use cipher::lengths;
 use cipher::refusal::Refusal;
@@ -31,13 +31,12 @@ pub fn run_round(tables: &[u8], block: &[u8]) -> Result<[u8; 16], Refusal>
 pub fn run_rounds(book: &[u8], n: usize, block: &[u8]) -> Result<[u8; 16], Refusal>
     ensures { block_told result ≡ run_rounds_answer book.now n block.now }
 {
-    let size = admit(book)?;
+    let parts = Book::admit(book)?;
     if block.len() != lengths::BLOCK {
         return Err(Refusal::BlockLength);
     }
-    let parts = body(book);
-    let all = size.rounds();
+    let all = parts.size.rounds();
     let few = n.min(all);
     let first = block_at(block, 0);
-    Ok(rounds(parts, few, first))
+    Ok(rounds(parts.body, few, first))
 }

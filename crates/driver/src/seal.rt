@@ -1,25 +1,24 @@
 // Sealing: coded blocks in a chain from an IV (document 01, "Pad, driver, archive").
-ghost use Rattle.std.specs.Prelude.{◌≡◌, ◌*◌, ◌≤◌, length, drop};
-ghost use mathlib.Core.List.{◌++◌, flatten};
-ghost use Rattle.lists.specs.Blocks.{cut, block_length};
+ghost use Rattle.std.specs.Prelude.{◌≡◌, ◌*◌, ◌/◌, ◌≤◌, ◌++◌, length, drop};
+ghost use Rattle.lists.specs.Blocks.{block_length};
 ghost use Rattle.cipher.specs.Refusal.{written_of};
 ghost use Rattle.driver.specs.Driver as D;
 
-use crate::admit::{admit, body};
+use crate::admit::Book;
 use crate::pass::pass;
 use cipher::block::{bad_text, block_at, put_block};
 use cipher::lengths;
 use cipher::refusal::Refusal;
-use cipher::size::KeySize;
 
-// The first n coded blocks sealed into the front of out; n is asked, since `cut` takes so many.
-fn seal_blocks(size: KeySize, body: &[u8], iv: [u8; 16], coded: &[u8], n: usize, out: &mut [u8])
-    requires { (length body.now ≡ D.body_length size) × (n ≤ 65536) × (block_length * n ≤ length coded.now) × (block_length * n ≤ length out.old) }
-    ensures { out.new ≡ flatten (D.passed_from (D.pass body.now 0) iv (cut n coded.now)) ++ drop (block_length * n) out.old }
+// The whole blocks of a coded text sealed into the front of out.
+fn seal_blocks(book: &Book, iv: [u8; 16], coded: &[u8], out: &mut [u8])
+    requires { length coded.now ≤ length out.old }
+    ensures { out.new ≡ D.sealed book.now.body.now iv coded.now ++ drop (block_length * (length coded.now / block_length)) out.old }
 {
+    let (size, body) = (book.size, book.body);
     let mut x = iv;
     let (blocks, _) = coded.as_chunks::<{ lengths::BLOCK }>();
-    for (k, block) in blocks[..n].iter().enumerate() {
+    for (k, block) in blocks.iter().enumerate() {
         let y = pass(size, body, 0, x, *block);
         put_block(out, lengths::BLOCK * k, y);
         x = y;
@@ -30,7 +29,7 @@ fn seal_blocks(size: KeySize, body: &[u8], iv: [u8; 16], coded: &[u8], n: usize,
 pub fn seal(book: &[u8], iv: &[u8], coded: &[u8], out: &mut [u8]) -> Result<usize, Refusal>
     ensures { (written_of result, out.new) ≡ D.seal_answer book.now iv.now coded.now out.old }
 {
-    let size = admit(book)?;
+    let parts = Book::admit(book)?;
     if iv.len() != lengths::BLOCK {
         return Err(Refusal::BlockLength);
     }
@@ -41,13 +40,6 @@ pub fn seal(book: &[u8], iv: &[u8], coded: &[u8], out: &mut [u8]) -> Result<usiz
     if out.len() < n {
         return Err(Refusal::ShortBuffer);
     }
-    seal_blocks(
-        size,
-        body(book),
-        block_at(iv, 0),
-        coded,
-        n / lengths::BLOCK,
-        out,
-    );
+    seal_blocks(&parts, block_at(iv, 0), coded, out);
     Ok(n)
 }

@@ -4,7 +4,7 @@ ghost use Rattle.std.specs.Prelude.{◌≡◌};
 ghost use Rattle.driver.specs.Driver as D;
 ghost use Rattle.driver.specs.declared.session.Session as S;
 
-use crate::admit::{admit, body};
+use crate::admit::Book;
 use crate::pass::pass;
 use cipher::block::block_at;
 use cipher::lengths;
@@ -35,8 +35,8 @@ pub fn begin(book: &[u8]) -> Result<Session, Refusal>
     ensures first { D.session_told result D.spent ≡ D.begin_answer book.now }
     ensures over { (s : S.Session) → D.session_told result s ≡ D.begun_over book.now s }
 {
-    admit(book)?;
-    let start = block_at(body(book), 0);
+    let parts = Book::admit(book)?;
+    let start = block_at(parts.body, 0);
     Ok(Session {
         block: start,
         taken: 0,
@@ -48,7 +48,7 @@ pub fn begin(book: &[u8]) -> Result<Session, Refusal>
 pub fn block_call(s: Session, book: &[u8], block: &[u8]) -> Result<Session, Refusal>
     ensures { D.session_told result s ≡ D.block_answer book.now block.now s }
 {
-    let size = admit(book)?;
+    let parts = Book::admit(book)?;
     if block.len() != lengths::BLOCK {
         return Err(Refusal::BlockLength);
     }
@@ -59,7 +59,7 @@ pub fn block_call(s: Session, book: &[u8], block: &[u8]) -> Result<Session, Refu
         return Err(Refusal::SessionFull);
     }
     let held = s.block;
-    let next = pass(size, body(book), 0, held, block_at(block, 0));
+    let next = pass(parts.size, parts.body, 0, held, block_at(block, 0));
     Ok(Session {
         block: next,
         taken: s.taken + 1,
@@ -77,7 +77,7 @@ pub fn last_call(
 ) -> Result<([u8; 16], Session), Refusal>
     ensures { D.tag_told result s ≡ D.last_answer book.now block.now kind s }
 {
-    let size = admit(book)?;
+    let parts = Book::admit(book)?;
     if block.len() != lengths::BLOCK {
         return Err(Refusal::BlockLength);
     }
@@ -89,7 +89,7 @@ pub fn last_call(
     }
     let group = kind as usize + 1;
     let held = s.block;
-    let tag = pass(size, body(book), group, held, block_at(block, 0));
+    let tag = pass(parts.size, parts.body, group, held, block_at(block, 0));
     let after = Session {
         finished: true,
         ..s

@@ -1,5 +1,6 @@
 // Building a reading book from a key and a reading chain (document 02, 2026-01). Refusals 34 and
 // 1 to 5 are those of schedule, key and chain; 9 is a buffer shorter than the book.
+// The schedule stays a number, as the C interface has it.
 ghost use Rattle.std.specs.Prelude.{◌≡◌, ◌≤◌, length};
 ghost use Rattle.lists.specs.Blocks.{zeros};
 ghost use Rattle.cipher.specs.KeySize as S;

@@ -6,17 +6,46 @@ use native.Mathlib.Decide.{dec_lt}
 use native.Mathlib.Numerals.{unary_clauses}
 use native.Mathlib.Omega.{arith}
 use borrow.Author.Tests.{lt-ltb, le-ltb}
-use lib.Dec.{lit<}
+use lib.Dec.{eqb, lit<}
 use borrow.Rule.Slice.PartMut.{put_mid}
 use lib.ListN.{length, get_or, take, drop, set, replicate, length-append}
-use Rattle.lists.specs.Tabulation.{tab, chunks}
+use Rattle.std.proofs.Common.{Result, Ok}
+use Rattle.std.specs.Prelude.{OnOk, slice_index}
+use Rattle.std.proofs.lemmas.Bool.{eqb-true}
+use Rattle.hex.specs.Hex.{lower_digits, encode_with, encode_lower}
+use Rattle.hex.specs.declared.error.FromHexError.{FromHexError}
+use Rattle.lists.specs.Blocks.{Bytes, Block}
+use Rattle.lists.specs.Every.{every}
+use Rattle.lists.specs.Tabulation.{chunks}
+use Rattle.lists.proofs.EveryLaws.{every_all}
 use Rattle.lists.proofs.PartLaws.{grown, fill_more}
-use Rattle.round.specs.Digits.{hex_digit_ascii}
-use Rattle.round.specs.Text.{hex_of, hex_digit, line, decimal_within, decimal, refused_word, refused_text, shown}
+use Rattle.round.specs.Digits.{hex_digit_ascii, last_digits}
+use Rattle.round.specs.Text.{hex_of, line, decimal_within, decimal, refused_word, refused_text, shown}
 
-pub hex_each : (b : List ℕ) → tab 32 (λ k. hex_digit (get_or b (k / 2) 0) k) ≡ hex_of b
-unfolding hex_of hex_digit tab chunks
-hex_each b = refl
+-- ---- a block in hex
+
+lower_digit : (d : ℕ) → d < 16 → slice_index lower_digits d ≡ hex_digit_ascii d
+unfolding every
+lower_digit d h = eqb-true _ _ (every_all 16 (λ d. eqb (slice_index lower_digits d) (hex_digit_ascii d)) refl d h)
+
+chunks_front : (n : ℕ) (g : ℕ → List ℕ) → chunks (suc n) g ≡ g 0 ++ chunks n (λ k. g (suc k))
+unfolding chunks
+chunks_front zero g = sym (append-nil (g 0))
+chunks_front (suc n) g = ap (λ (t : List ℕ). t ++ g (suc n)) (chunks_front n g) ∙ append_assoc (g 0) (chunks n (λ k. g (suc k))) (g (suc n))
+
+encoded : (b : List ℕ) → Bytes b → encode_lower b ≡ chunks (length b) (λ k. last_digits 16 2 (get_or b k 0))
+unfolding encode_with chunks
+encoded [] h = refl
+encoded (x ∷ b) h =
+    let e : x / 16 ≡ x / 16 % 16 = omega (arith, h 0) in
+    (λ i. (lower_digit (x / 16) (omega (arith, h 0)) ∙ ap hex_digit_ascii e) i ∷ lower_digit (x % 16) (omega arith) i ∷ encoded b (λ k. h (suc k)) i)
+    ∙ sym (chunks_front (length b) (λ k. last_digits 16 2 (get_or (x ∷ b) k 0)))
+
+-- what was written of a block
+pub hex_is : {r : Result (Unit {0}) FromHexError} {u : Unit {0}} (b out : List ℕ) → Block b → r ≡ Ok u → OnOk r (out ≡ encode_lower b) → out ≡ hex_of b
+unfolding hex_of
+hex_is b out h e w =
+    (rw e at w) ∙ encoded b h.bytes ∙ ap (λ (n : ℕ). chunks n (λ k. last_digits 16 2 (get_or b k 0))) h.size
 
 -- two lines, with the blocks and the digits written in
 pub two_lines_is : (a b h g : List ℕ) (r d e : ℕ) → h ≡ hex_of a → g ≡ hex_of b → d ≡ hex_digit_ascii (r / 10 % 10) → e ≡ hex_digit_ascii (r % 10)

@@ -1,6 +1,6 @@
 -- What the round program prints (document 01, "Table of examples", its last paragraph): "refused N", or lines of a round
 -- number, a space and a block in lower-case hex.
-use Rattle.std.specs.Prelude.{Result, Ok, Err, cond, List, [], ◌∷◌, ◌++◌, ℕ, zero, suc, ◌-◌, ◌/◌, ◌%◌, eqb, ltb, length, get_or, replicate}
+use Rattle.std.specs.Prelude.{Result, Ok, Err, cond, List, [], ◌∷◌, ◌++◌, ℕ, zero, suc, ◌-◌, ◌/◌, ◌%◌, ltb, length, get_or, replicate}
 use Rattle.lists.specs.Blocks.{block_length}
 use Rattle.lists.specs.Tabulation.{chunks}
 use Rattle.cipher.specs.Refusal.{number_of}
@@ -11,10 +11,6 @@ use Rattle.round.specs.declared.page.Report.{Report}
 -- a block in hex: two digits a byte
 unfoldable pub hex_of : List ℕ → List ℕ
 hex_of b = chunks block_length (λ k. last_digits 16 2 (get_or b k 0))
-
--- digit k of it, from its byte x
-unfoldable pub hex_digit : ℕ → ℕ → ℕ
-hex_digit x k = hex_digit_ascii (cond (eqb (k % 2) 0) (x / 16 % 16) (x % 16))
 
 -- a line: the round number n, of k digits, a space, the block, a newline
 unfoldable pub line : ℕ → ℕ → List ℕ → List ℕ

@@ -26,12 +26,6 @@ const LONGEST: usize = 1
     + (lengths::SET + lengths::ROUND_CODINGS) * 32
     + lengths::BLOCK;
 
-fn room() -> [u8; LONGEST]
-    ensures { 30513 ≡ length result }
-{
-    [0u8; LONGEST]
-}
-
 // How many bytes are to be read, by the first of them: one where it is no length of a key.
 fn wanted(first: u8) -> usize
     ensures { (result ≡ wanted_bytes first) × (1 ≤ result) × (result ≤ 30513) }
@@ -76,7 +70,7 @@ fn read_input(from: &mut impl Read, input: &mut [u8]) -> io::Result<usize>
 }
 
 fn main(rt: HostRuntime) -> io::Result<()> {
-    let mut input = room();
+    let mut input = [0u8; LONGEST];
     let n = read_input(&mut rt.stdin(), &mut input)?;
     rt.write_all(report::report(&input[..n]).bytes())
 }

@@ -3,7 +3,7 @@
 ghost use Rattle.std.specs.Prelude.{◌≡◌, length};
 ghost use Rattle.cipher.specs.KeySize as S;
 ghost use Rattle.round.specs.Text.{shown, report_told, told};
-ghost use Rattle.round.specs.Round.{two_lines, printed_on, printed_after, printed};
+ghost use Rattle.round.specs.Round.{two_lines, printed_after, printed};
 
 use crate::page::Report;
 use crate::rounds::Keyed;
@@ -28,20 +28,7 @@ fn run(keyed: &Keyed, block: [u8; 16]) -> Report
     two_lines(first, r, last)
 }
 
-// The chain (3 to 5) and the block (7), which rest begins with.
-fn on_chain(size: KeySize, key: &[u8], chain: &[u8], rest: &[u8]) -> Result<Report, Refusal>
-    requires { length key.now ≡ S.key_length size }
-    ensures { told result ≡ shown (printed_on size key.now chain.now rest.now) }
-{
-    check_sized(size, chain)?;
-    if rest.len() < lengths::BLOCK {
-        return Err(Refusal::BlockLength);
-    }
-    let keyed = Keyed { size, key, chain };
-    Ok(run(&keyed, block_at(rest, 0)))
-}
-
-// What is after the key: the chain, of which bytes may be missing (2), and what is after it.
+// What is after the key: the chain, of which bytes may be missing (2) or wrong (3 to 5), and the block (7).
 fn on_rest(size: KeySize, key: &[u8], rest: &[u8]) -> Result<Report, Refusal>
     requires { length key.now ≡ S.key_length size }
     ensures { told result ≡ shown (printed_after size key.now rest.now) }
@@ -50,7 +37,14 @@ fn on_rest(size: KeySize, key: &[u8], rest: &[u8]) -> Result<Report, Refusal>
     if rest.len() < n {
         return Err(Refusal::ChainLength);
     }
-    on_chain(size, key, &rest[0..n], &rest[n..])
+    let chain = &rest[0..n];
+    let last = &rest[n..];
+    check_sized(size, chain)?;
+    if last.len() < lengths::BLOCK {
+        return Err(Refusal::BlockLength);
+    }
+    let keyed = Keyed { size, key, chain };
+    Ok(run(&keyed, block_at(last, 0)))
 }
 
 // The whole input: a length byte that is missing or none of the three, and missing bytes of the key

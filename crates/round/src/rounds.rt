@@ -1,6 +1,5 @@
 // The rounds, by the tables of one round at a time: no more of a book is ever held.
-ghost use Rattle.std.specs.Prelude.{◌≡◌, ◌≤◌, ◌<◌, length};
-ghost use Rattle.cipher.specs.Lengths.{round_length};
+ghost use Rattle.std.specs.Prelude.{◌≡◌, ◌≤◌, ◌<◌};
 ghost use Rattle.cipher.specs.KeySize as S;
 ghost use Rattle.cipher.specs.Chain.{chain_set};
 ghost use Rattle.cipher.specs.Coding.{decoded};
@@ -14,13 +13,6 @@ use cipher::lengths;
 use cipher::schedules::LEA;
 use cipher::size::KeySize;
 use driver::run::run_round;
-
-// Room for the tables of one round.
-fn room() -> [u8; lengths::ROUND_TABLES]
-    ensures { round_length ≡ length result }
-{
-    [0u8; lengths::ROUND_TABLES]
-}
 
 // A key and a valid chain, which are of one size.
 #[derive(Clone, Copy)]
@@ -37,7 +29,7 @@ impl<'a> Keyed<'a> {
         requires { l < S.rounds self.now.size }
         ensures { result ≡ table_round (tables_of self.now.size self.now.key.now self.now.chain.now l) x }
     {
-        let mut tables = room();
+        let mut tables = [0u8; lengths::ROUND_TABLES];
         build_round(LEA, self.key, self.chain, l, &mut tables).unwrap();
         run_round(&tables, &x).unwrap()
     }
@@ -47,6 +39,7 @@ impl<'a> Keyed<'a> {
         ensures { result ≡ later_rounds self.now.size self.now.key.now self.now.chain.now (S.rounds self.now.size) x }
     {
         let mut b = x;
+        // A loop: a fold is no plainer, since its closure has to write `one_round`'s two clauses again.
         for l in 1..self.size.rounds() {
             // In two steps: a call's result put over the array that the call takes is not covered by the checker.
             let next = self.one_round(l, b);

@@ -1,41 +1,18 @@
 // What the round program prints: two lines, or a refusal.
 ghost use Rattle.std.specs.Prelude.{◌≡◌, ◌++◌, ◌≤◌, ◌<◌, length, drop};
 ghost use Rattle.round.specs.Digits.{hex_digit_ascii};
-ghost use Rattle.round.specs.Text.{hex_digit, hex_of, line, decimal, refused_text, shown, report_told};
+ghost use Rattle.round.specs.Text.{line, decimal, refused_text, shown, report_told};
 
 use crate::page::{LONGEST, Report};
-use std::array;
+use hex::encode_to_slice;
 
-// A digit in ASCII.
+// A decimal digit in ASCII.
 #[tactic(auto, using(std::proofs::lemmas::Bool::Decides::nat_tests))]
 fn digit(d: usize) -> u8
-    requires { d < 16 }
+    requires { d < 10 }
     ensures { result ≡ hex_digit_ascii d }
 {
-    if d < 10 {
-        b'0' + d as u8
-    } else {
-        b'a' + (d - 10) as u8
-    }
-}
-
-// Digit k of a block in hex, from the byte x that it is in: the upper half of a byte comes first.
-#[tactic(auto, using(std::proofs::lemmas::Bool::Decides::nat_tests), unfolding(crate::specs::Text::hex_digit))]
-fn hex_digit(x: u8, k: usize) -> u8
-    ensures { result ≡ hex_digit x k }
-{
-    let v = x as usize;
-    if k % 2 == 0 {
-        return digit(v / 16 % 16);
-    }
-    digit(v % 16)
-}
-
-// A block in hex.
-fn hex(b: [u8; 16]) -> [u8; 32]
-    ensures { result ≡ hex_of b }
-{
-    array::from_fn(|k| hex_digit(b[k / 2], k))
+    b'0' + d as u8
 }
 
 // The two lines: one for round 1 and its opened block, one for round r, a number of two digits, and
@@ -51,8 +28,8 @@ pub fn two_lines(first: [u8; 16], r: usize, last: [u8; 16]) -> Report
     text[36] = digit(r % 10);
     text[37] = b' ';
     text[70] = b'\n';
-    text[38..70].copy_from_slice(&hex(last));
-    text[2..34].copy_from_slice(&hex(first));
+    encode_to_slice(last, &mut text[38..70]).unwrap();
+    encode_to_slice(first, &mut text[2..34]).unwrap();
     Report {
         text,
         length: LONGEST,
@@ -60,7 +37,7 @@ pub fn two_lines(first: [u8; 16], r: usize, last: [u8; 16]) -> Report
 }
 
 // A number in decimal into the front of a part, and how many digits it has.
-// By hand: `write!` would need a fmt::Write over the array, and a contract for that, which is no plainer.
+// By hand: edit digits_skipped leaves out digits in the recursion, and `itoa`'s one call has no such step.
 #[tactic(auto, using(crate::proofs::TextLaws::decimal_some, crate::proofs::TextLaws::decimal_longer))]
 fn put_decimal(n: u32, out: &mut [u8]) -> usize
     requires { length (decimal n) ≤ length out.old }

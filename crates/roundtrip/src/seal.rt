@@ -1,4 +1,5 @@
 // A message sealed and opened again, from a key, a chain and plain buffers.
+// The schedule stays a number, as the C interface has it.
 ghost use Rattle.std.specs.Prelude.{◌≡◌};
 ghost use Rattle.cipher.specs.Refusal.{written_of};
 ghost use Rattle.roundtrip.specs.Steps.{sealed_opened, coded_opened};

@@ -1,4 +1,5 @@
 // What both round trips begin with: a book from a key and a chain, and what the parts have from then on.
+// The schedule stays a number, as the C interface has it.
 ghost use Rattle.std.specs.Prelude.{◌≡◌, ◌+◌, ◌*◌, ◌≤◌, length, take, drop};
 ghost use Rattle.cipher.specs.Lengths.{set_length};
 ghost use Rattle.cipher.specs.KeySize.{rounds, book_length};

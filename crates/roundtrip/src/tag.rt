@@ -1,4 +1,5 @@
 // The tag of a message made by a session and checked, from a key, a chain and plain buffers.
+// The schedule stays a number, as the C interface has it.
 ghost use Rattle.std.specs.Prelude.{◌≡◌, ◌*◌, ◌≤◌, length};
 ghost use Rattle.lists.specs.Blocks.{block_length};
 ghost use Rattle.archive.specs.Archive.{checked_told};

@@ -57,13 +57,13 @@ pub fn works(
 }
 
 // The pad, which has the message set of the chain: codes the ink for sealing and for a tag, and answers
-// the kind, a byte as the driver takes it. A refusal is printed; 0 is no kind, and the driver refuses it.
+// the kind of the code for a tag, a byte as the driver takes it. A refusal is printed, and has no kind.
 fn pad_codes(
     rt: &impl Print,
     case: &Case,
     for_sealing: &mut [u8; CODED],
     for_tag: &mut [u8; CODED],
-) -> io::Result<u8> {
+) -> io::Result<Option<u8>> {
     let u = &case.chain[..lengths::SET];
     println!(rt; "\nTuesday, at the counter\n2. The pad codes the ink, and has no key")?;
     show(rt, "in   message set", u)?;
@@ -74,10 +74,10 @@ fn pad_codes(
     show(rt, "out  coded to seal", for_sealing)?;
     let Ok(code) = code_for_tag(u, &case.ink, for_tag) else {
         tell(rt, "out  coded for a tag", "refused")?;
-        return Ok(0);
+        return Ok(None);
     };
     show(rt, "out  coded for a tag", for_tag)?;
-    Ok(code.kind)
+    Ok(Some(code.kind))
 }
 
 // The driver: seals a coded file.
@@ -104,18 +104,19 @@ fn block_calls(start: Session, book: &[u8; BOOK], blocks: &[u8]) -> Session {
     s
 }
 
-// The driver: makes the tag of a coded file, on a session that is lent to each call. A tag that is
-// refused is shown as zeros.
+// The driver: makes the tag of a coded file, on a session that is lent to each call. Where there is no
+// kind or the last call refuses, zeros are shown.
 fn make_tag(
     rt: &impl Print,
     book: &[u8; BOOK],
     coded: &[u8; CODED],
-    kind: u8,
+    kind: Option<u8>,
 ) -> io::Result<[u8; 16]> {
     let (front, last) = coded.split_at(CODED - lengths::BLOCK);
     let fresh = begin(spent(), book).unwrap_or(spent());
     let s = block_calls(fresh, book, front);
-    let tag = last_call(s, book, last, kind).map_or([0u8; 16], |(tag, _)| tag);
+    let made = kind.and_then(|kind| last_call(s, book, last, kind).ok());
+    let tag = made.map_or([0u8; 16], |(tag, _)| tag);
     show(rt, "out  tag", &tag)?;
     Ok(tag)
 }
@@ -175,8 +176,10 @@ fn archive_says(rt: &impl Print, case: &Case, sent: &Sent) -> io::Result<bool> {
         }
         Err(why) => {
             println!(rt; "   out  message          none: {why}")?;
-            println!(rt;
-                "   out  verdict          none: nothing was opened, so no tag was checked"
+            tell(
+                rt,
+                "out  verdict",
+                "none: nothing was opened, so no tag was checked",
             )?;
             Ok(false)
         }

@@ -7,4 +7,4 @@ use Rattle.driver.proofs.seal.seal_blocks.Given as goal
 
 abbrev pub invariant-loop-k : goal.invariant-loop-k
 invariant-loop-k l =
-    (l.x ≡ passed_last (pass l.body 0) l.initial.x (cut l.k l.coded)) × (l.out ≡ done l.body l.initial.x l.coded l.initial.out l.k ++ drop (16 * l.k) l.initial.out) × (length l.out ≡ length l.initial.out)
+    (l.x ≡ passed_last (pass l.book.body.now 0) l.initial.x (cut l.k l.coded)) × (l.out ≡ done l.book.body.now l.initial.x l.coded l.initial.out l.k ++ drop (16 * l.k) l.initial.out) × (length l.out ≡ length l.initial.out)
