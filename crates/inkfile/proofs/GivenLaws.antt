@@ -23,6 +23,9 @@ use Rattle.inkfile.proofs.FaultLaws.{run_here, run_behind, run_ninth}
 pub body_lent : (bs : List (Bor (List ℕ))) (i : ℕ) → (get_or bs i (record { ref_ptr = (0, 0); now = [] })).now ≡ get_or (lent bs) i []
 body_lent bs i = sym (get_or-map (λ (b : Bor (List ℕ)). b.now) bs i (record { ref_ptr = (0, 0); now = [] }))
 
+pub body_here : (bs : List (Bor (List ℕ))) (i : ℕ) (b : Bor (List ℕ)) → ((d : Bor (List ℕ)) → b ≡ get_or bs i d) → b.now ≡ get_or (lent bs) i []
+body_here bs i b h = ap (λ (b : Bor (List ℕ)). b.now) (h (record { ref_ptr = (0, 0); now = [] })) ∙ body_lent bs i
+
 -- there are as many as there are kinds
 pub length_given : (kinds : List ℕ) (bodies : List (List ℕ)) → length (remarks_of kinds bodies) ≡ length kinds
 unfolding remarks_of
