@@ -99,8 +99,8 @@ impl Given<'_> {
         ensures { out.new ≡ overlaid out.old at (S.remarks_bytes (S.given self.now).remarks) }
     {
         let mut at = at;
-        for (i, kind) in self.kinds.iter().enumerate() {
-            at = put_record(out, at, *kind, self.bodies[i]);
+        for (kind, body) in self.kinds.iter().zip(&self.bodies) {
+            at = put_record(out, at, *kind, body);
         }
     }
 }
