@@ -6,7 +6,7 @@ ghost use Rattle.inkfile.specs.Reading.{read_ink_answer};
 ghost use Rattle.inkfile.specs.ReadingSteps.{ink_told};
 ghost use Rattle.inkfile.specs.Writing.{fields_given, write_ink_answer};
 
-use crate::deliver_length;
+use crate::{deliver, deliver_length};
 use inkfile::read::Ink;
 
 // What is told of an ink file as 18 numbers: the places of pad number, IV, sealed blocks, the length of
@@ -14,9 +14,7 @@ use inkfile::read::Ink;
 fn numbers(ink: Ink) -> [u64; 18]
     ensures { result ≡ (ink_numbers (ink_told (Ok ink))).1 }
 {
-    let k = ink.kinds;
-    let o = ink.offsets;
-    let l = ink.lengths;
+    let [r0, r1, r2, r3] = ink.remarks;
     [
         ink.pad_number as u64,
         ink.iv as u64,
@@ -24,18 +22,18 @@ fn numbers(ink: Ink) -> [u64; 18]
         ink.sealed_length as u64,
         ink.tag as u64,
         ink.count as u64,
-        k[0] as u64,
-        k[1] as u64,
-        k[2] as u64,
-        k[3] as u64,
-        o[0] as u64,
-        o[1] as u64,
-        o[2] as u64,
-        o[3] as u64,
-        l[0] as u64,
-        l[1] as u64,
-        l[2] as u64,
-        l[3] as u64,
+        r0.kind as u64,
+        r1.kind as u64,
+        r2.kind as u64,
+        r3.kind as u64,
+        r0.offset as u64,
+        r1.offset as u64,
+        r2.offset as u64,
+        r3.offset as u64,
+        r0.length as u64,
+        r1.length as u64,
+        r2.length as u64,
+        r3.length as u64,
     ]
 }
 
@@ -43,13 +41,7 @@ fn numbers(ink: Ink) -> [u64; 18]
 pub fn bowlinette_read_ink(file: &[u8], ink: &mut [u64; 18]) -> u32
     ensures { (result, ink.new) ≡ into (ink_numbers (read_ink_answer file.now)) ink.old }
 {
-    match inkfile::read::read_ink(file) {
-        Ok(found) => {
-            *ink = numbers(found);
-            0
-        }
-        Err(why) => why.into(),
-    }
+    deliver(inkfile::read::read_ink(file).map(numbers), ink)
 }
 
 // The fields of an ink file written into the front of out, and the length of the file into length.

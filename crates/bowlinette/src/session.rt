@@ -1,8 +1,8 @@
 // The tag session for C: the caller keeps it as 19 bytes, any bytes being some session.
-ghost use Rattle.std.specs.Prelude.{◌≡◌, ◌+◌, ◌*◌};
+ghost use Rattle.std.specs.Prelude.{◌≡◌};
 ghost use Rattle.driver.specs.Driver as D;
 ghost use Rattle.bowlinette.specs.Into.{into};
-ghost use Rattle.bowlinette.specs.Session.{session_in, flag_of, record_of, recorded, tag_recorded};
+ghost use Rattle.bowlinette.specs.Session.{session_in, record_of, recorded, tag_recorded};
 
 use crate::deliver;
 use cipher::block::block_at;

@@ -2,7 +2,7 @@
 // read on; that the bytes suffice is known before anything is written. A draw goes past the end by one
 // byte for each number at most; the bounds in the contracts leave room for that, so that no sum is too
 // large for a machine word.
-ghost use Rattle.std.specs.Prelude.{◌≡◌, ◌+◌, ◌≤◌, ◌<◌, length, get_or, drop};
+ghost use Rattle.std.specs.Prelude.{◌≡◌, ◌≤◌, ◌<◌, length, get_or};
 ghost use Rattle.cipher.specs.Lengths.{coding_length};
 ghost use Rattle.coding_maker.specs.Draw as D;
 ghost use Rattle.coding_maker.specs.Source.{rest, past, Near};
@@ -11,14 +11,8 @@ use crate::numbers::{Numbers, SKIPPED};
 use cipher::invert::wide;
 use cipher::lengths;
 
-// A number that was drawn, and the place of the first byte that is left.
-#[derive(Clone, Copy)]
-struct Drawn {
-    number: usize,
-    at: usize,
-}
-
-// Random bytes, what each stands for, and the place of the first that is left, which each draw moves on.
+// Random bytes, what each stands for, and the place of the first that is left, which each draw moves on: so
+// many were drawn.
 #[derive(Clone, Copy)]
 pub struct Source<'a> {
     pub numbers: &'a Numbers,
@@ -35,13 +29,6 @@ impl<'a> Source<'a> {
             random,
             at: 0,
         }
-    }
-
-    // How many bytes were drawn.
-    pub fn drawn(&self) -> usize
-        ensures { result ≡ self.now.at }
-    {
-        self.at
     }
 
     // The next byte, or 0 behind the end.
@@ -63,32 +50,19 @@ impl<'a> Source<'a> {
     }
 
     // A number from 0 to k: bytes are skipped until one stands for a number.
-    fn draw_number(&self, k: usize) -> Drawn
-        requires { (k < 16) × Near 2000000 self.now }
-        ensures { (result.number ≡ D.chosen k (rest self.now)) × (result.at ≡ self.now.at + D.drawn k (rest self.now)) }
-    {
-        for at in self.at..self.random.len() {
-            let number = self.numbers.stands_for(k, self.random[at]);
-            if number < SKIPPED {
-                return Drawn {
-                    number: wide(number),
-                    at: at + 1,
-                };
-            }
-        }
-        Drawn {
-            number: 0,
-            at: self.at.max(self.random.len()) + 1,
-        }
-    }
-
     fn number(&mut self, k: usize) -> usize
         requires { (k < 16) × Near 2000000 self.old }
         ensures { (result ≡ D.chosen k (rest self.old)) × (self.new ≡ past (D.drawn k) self.old) }
     {
-        let drawn = self.draw_number(k);
-        self.at = drawn.at;
-        drawn.number
+        for at in self.at..self.random.len() {
+            let number = self.numbers.stands_for(k, self.random[at]);
+            if number < SKIPPED {
+                self.at = at + 1;
+                return wide(number);
+            }
+        }
+        self.at = self.at.max(self.random.len()) + 1;
+        0
     }
 
     // The draws of a coding, without the coding.

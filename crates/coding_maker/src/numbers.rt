@@ -1,6 +1,6 @@
 // What each byte stands for where a number is drawn (document 02, 2026-03), in one table: a draw is then
 // a look-up, and needs no division.
-ghost use Rattle.std.specs.Prelude.{◌≡◌, ◌++◌, ℕ, ◌+◌, ◌%◌, ◌<◌, length, get_or, drop};
+ghost use Rattle.std.specs.Prelude.{◌≡◌, ℕ, ◌+◌, ◌%◌, ◌<◌, length, get_or};
 ghost use Rattle.lists.specs.Tabulation.{tab};
 ghost use Rattle.coding_maker.specs.Draw.{limit};
 ghost use Rattle.coding_maker.specs.Numbers.{stands_for, number_table};

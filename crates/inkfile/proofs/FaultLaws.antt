@@ -1,5 +1,5 @@
 -- The fault of a record by its kind and its length, as the code goes about it, and what it says of the tests of a run of records.
-use Rattle.std.specs.Prelude.{Option, Some, Ok, Err, ok_or}
+use Rattle.std.specs.Prelude.{Option, Err, ok_or}
 use mathlib.Core.Path.{◌≡◌, sym, ap, ◌∙◌}
 use mathlib.Core.Bool.{true, false, not, false≢true}
 use mathlib.Core.List.{List, [], ◌∷◌}

@@ -19,9 +19,11 @@ use Rattle.inkfile.specs.WritingSteps.{lent, remarks_bytes, remarks_size}
 use Rattle.inkfile.proofs.RecordLaws.{length_record}
 use Rattle.inkfile.proofs.FaultLaws.{run_here, run_behind, run_ninth}
 
--- a body, as the code reads it
-pub body_lent : (bs : List (Bor (List ℕ))) (i : ℕ) → (get_or bs i (record { ref_ptr = (0, 0); now = [] })).now ≡ get_or (lent bs) i []
-body_lent bs i = sym (get_or-map (λ (b : Bor (List ℕ)). b.now) bs i (record { ref_ptr = (0, 0); now = [] }))
+-- a body, as the code finds it
+pub body_here : (bs : List (Bor (List ℕ))) (i : ℕ) (b : Bor (List ℕ)) → ((d : Bor (List ℕ)) → b ≡ get_or bs i d) → b.now ≡ get_or (lent bs) i []
+body_here bs i b h =
+    let none : Bor (List ℕ) = record { ref_ptr = (0, 0); now = [] } in
+    ap (λ (b : Bor (List ℕ)). b.now) (h none) ∙ sym (get_or-map (λ (b : Bor (List ℕ)). b.now) bs i none)
 
 -- there are as many as there are kinds
 pub length_given : (kinds : List ℕ) (bodies : List (List ℕ)) → length (remarks_of kinds bodies) ≡ length kinds
@@ -82,25 +84,6 @@ module _ (kinds : List ℕ) (bodies : List (List ℕ)) (i : ℕ) where
     pub one_left : from_on kinds bodies i ≡ (get_or kinds i 0, b) ∷ from_on kinds bodies (i + 1)
     one_left = split kinds bodies i h ∙ (λ j. (get_or kinds i 0, sym e j) ∷ from_on kinds bodies (sym (add-one i) j))
 
-    -- its bytes in a file, and how many
-    pub run_left : run_of (from_on kinds bodies i) ≡ record_of (get_or kinds i 0, b) ++ run_of (from_on kinds bodies (i + 1))
-    unfolding run_of
-    run_left = ap run_of one_left
-
-    pub size_left : length (run_of (from_on kinds bodies i)) ≡ 6 + length b + length (run_of (from_on kinds bodies (i + 1)))
-    size_left =
-        ap length run_left ∙ length-append (record_of (get_or kinds i 0, b)) (run_of (from_on kinds bodies (i + 1)))
-        ∙ ap (λ (n : ℕ). n + length (run_of (from_on kinds bodies (i + 1)))) (length_record (get_or kinds i 0, b))
-
-    -- written over a buffer, it leaves those behind it
-    pub put_left : (out o1 : List ℕ) (at n : ℕ) → n ≡ at + 6 + length b → o1 ≡ overlaid out at (record_of (get_or kinds i 0, b)) → n ≤ length out
-        → overlaid o1 n (run_of (from_on kinds bodies (i + 1))) ≡ overlaid out at (run_of (from_on kinds bodies i))
-    put_left out o1 at n en eo h =
-        let l = length_record (get_or kinds i 0, b) in
-        ap (λ (o : List ℕ). overlaid o n (run_of (from_on kinds bodies (i + 1)))) eo
-        ∙ two_overlaid out at (record_of (get_or kinds i 0, b)) (run_of (from_on kinds bodies (i + 1))) n (omega arith) (omega arith)
-        ∙ ap (overlaid out at) (sym run_left)
-
     -- its fault
     tests_left : first (run_tests (4 + i) ((get_or kinds i 0, b) ∷ from_on kinds bodies (i + 1))) (λ q. q) 0 ≡ first (run_tests (4 + i) (from_on kinds bodies i)) (λ q. q) 0
     tests_left = ap (λ (rs : List Record). first (run_tests (4 + i) rs) (λ q. q) 0) (sym one_left)
@@ -119,10 +102,42 @@ module _ (kinds : List ℕ) (bodies : List (List ℕ)) (i : ℕ) where
     fifth_left e = run_ninth (4 + i) (get_or kinds i 0, b) (from_on kinds bodies (i + 1)) (omega arith) ∙ tests_left
 
 -- none is left at the end
-pub put_none : (out : List ℕ) (at : ℕ) (kinds : List ℕ) (bodies : List (List ℕ)) (i : ℕ) → length kinds ≤ i → overlaid out at (run_of (from_on kinds bodies i)) ≡ out
-unfolding run_of
-put_none out at kinds bodies i h = sym (nothing_overlaid out at (run_of (from_on kinds bodies i)) (ap run_of (none_left kinds bodies i h)))
-
 pub fault_none_left : (kinds : List ℕ) (bodies : List (List ℕ)) (i k : ℕ) → length kinds ≤ i → first (run_tests k (from_on kinds bodies i)) (λ q. q) 0 ≡ 0
 unfolding run_tests first
 fault_none_left kinds bodies i k h = ap (λ (rs : List Record). first (run_tests k rs) (λ q. q) 0) (none_left kinds bodies i h)
+
+-- ---- remarks that are left to be written, the first of them and those behind it
+
+pub one_given : (ks kinds : List ℕ) (bs bodies : List (Bor (List ℕ))) (k : ℕ) (b : Bor (List ℕ)) → ks ≡ k ∷ kinds → bs ≡ b ∷ bodies
+    → remarks_of ks (lent bs) ≡ (k, b.now) ∷ remarks_of kinds (lent bodies)
+unfolding remarks_of
+one_given ks kinds bs bodies k b e h = λ i. remarks_of (e i) (lent (h i))
+
+pub none_given : (ks : List ℕ) (bodies : List (List ℕ)) → length ks ≡ 0 → remarks_of ks bodies ≡ []
+unfolding remarks_of
+none_given [] bodies e = refl
+none_given (k ∷ ks) bodies e = absurd (omega arith)
+
+module _ (rs behind : List Record) (r : Record) (e : rs ≡ r ∷ behind) where
+  -- its bytes in a file, and how many
+  run_left : run_of rs ≡ record_of r ++ run_of behind
+  unfolding run_of
+  run_left = ap run_of e
+
+  pub size_left : length (run_of rs) ≡ 6 + length r.1 + length (run_of behind)
+  size_left =
+      ap length run_left ∙ length-append (record_of r) (run_of behind)
+      ∙ ap (λ (n : ℕ). n + length (run_of behind)) (length_record r)
+
+  -- written over a buffer, it leaves those behind it
+  pub put_left : (out o1 : List ℕ) (at n : ℕ) → n ≡ at + 6 + length r.1 → o1 ≡ overlaid out at (record_of r) → n ≤ length out
+      → overlaid o1 n (run_of behind) ≡ overlaid out at (run_of rs)
+  put_left out o1 at n en eo h =
+      let l = length_record r in
+      ap (λ (o : List ℕ). overlaid o n (run_of behind)) eo
+      ∙ two_overlaid out at (record_of r) (run_of behind) n (omega arith) (omega arith)
+      ∙ ap (overlaid out at) (sym run_left)
+
+pub put_none : (out : List ℕ) (at : ℕ) (rs : List Record) → rs ≡ [] → overlaid out at (run_of rs) ≡ out
+unfolding run_of
+put_none out at rs e = sym (nothing_overlaid out at (run_of rs) (ap run_of e))

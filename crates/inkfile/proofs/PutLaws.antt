@@ -1,10 +1,11 @@
 -- Writing records into a buffer, and how many bytes they take.
 use mathlib.Core.Path.{◌≡◌, sym, ap, ap₂, ◌∙◌}
 use mathlib.Core.List.{List, [], ◌∷◌, ◌++◌, append_assoc}
-use Prim.Native.Nat.{ℕ, ◌+◌, ◌*◌, ◌%◌, ◌/◌, ◌≤◌}
+use Prim.Native.Nat.{ℕ, ◌+◌, ◌-◌, ◌*◌, ◌%◌, ◌/◌, ◌≤◌}
+use native.Mathlib.Nat.{add-sub_cancel_left}
 use native.Mathlib.Omega.{arith}
 use lib.ListN.{length, get_or, take, drop, length-append}
-use lib.Seq.{length-take-le}
+use lib.Seq.{length-take-le, drop-drop}
 use Rattle.lists.specs.Overlay.{overlaid}
 use Rattle.lists.proofs.PartLaws.{put_more}
 use Rattle.lists.proofs.OverlayLaws.{four_overlaid}
@@ -35,6 +36,10 @@ low_bytes n =
 pub head_is : (kind n : ℕ) (b : List ℕ) → b ≡ bytes_of (n % 4294967296) → ◌≡◌ {A = List ℕ} (mark ∷ kind ∷ get_or b 0 0 ∷ get_or b 1 0 ∷ get_or b 2 0 ∷ get_or b 3 0 ∷ []) (head_of kind n)
 unfolding bytes_of
 head_is kind n b e = ap (λ (l : List ℕ). mark ∷ kind ∷ get_or l 0 0 ∷ get_or l 1 0 ∷ get_or l 2 0 ∷ get_or l 3 0 ∷ []) (e ∙ low_bytes n)
+
+-- a part of a buffer that was made b
+pub part_over : (out new b : List ℕ) (at n : ℕ) → new ≡ b → n ≡ length b → take at out ++ (new ++ drop (at + n - at) (drop at out)) ≡ overlaid out at b
+part_over out new b at n e w = rw (add-sub_cancel_left at n, e, w, drop-drop (length b) at out) (sym (append_assoc (take at out) b (drop (at + length b) out)))
 
 -- the head, as it is lent, and the bytes behind it
 pub record_over : (out o1 o2 h body : List ℕ) (at kind : ℕ) → h ≡ head_of kind (length body) → at + 6 + length body ≤ length out

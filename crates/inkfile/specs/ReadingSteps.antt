@@ -60,9 +60,9 @@ ink_told (Ok r) =
       sealed_length = r.sealed_length;
       tag = r.tag;
       count = r.count;
-      kinds = r.kinds;
-      offsets = r.offsets;
-      lengths = r.lengths;
+      kinds = kinds_in r.remarks;
+      offsets = offsets_in r.remarks;
+      lengths = lengths_in r.remarks;
     }
 ink_told (Err q) =
     record {

@@ -9,6 +9,15 @@ use cipher::block::bad_text;
 use cipher::lengths;
 use cipher::refusal::Refusal;
 
+// The kind bytes of the first four records; those of remarks are 0x10 to 0x1f.
+pub const PAD_NUMBER: u8 = 0x01;
+
+pub const IV: u8 = 0x02;
+
+pub const SEALED: u8 = 0x03;
+
+pub const TAG: u8 = 0x04;
+
 // What a record is, by its kind byte.
 #[derive(Clone, Copy)]
 pub enum Kind {
@@ -28,10 +37,10 @@ impl TryFrom<u8> for Kind {
     #[tactic(auto, using(std::proofs::lemmas::Bool::Decides::nat_tests), unfolding(crate::specs::Kinds::kind_of))]
     fn try_from(b: u8) -> Result<Kind, Refusal> {
         match b {
-            0x01 => Ok(Kind::PadNumber),
-            0x02 => Ok(Kind::Iv),
-            0x03 => Ok(Kind::Sealed),
-            0x04 => Ok(Kind::Tag),
+            PAD_NUMBER => Ok(Kind::PadNumber),
+            IV => Ok(Kind::Iv),
+            SEALED => Ok(Kind::Sealed),
+            TAG => Ok(Kind::Tag),
             0x10..=0x1f => Ok(Kind::Remark),
             0x00 | 0x05..=0x0f | 0x20..=0xff => Err(Refusal::BadRecord),
         }

@@ -8,7 +8,7 @@ ghost use Rattle.inkfile.specs.ReadingSteps as S;
 use crate::kind::fault;
 use crate::layout;
 use cipher::refusal::Refusal;
-use words::word::word;
+use words::word::word_at;
 
 // The head of a record: its kind byte, and how many bytes follow.
 #[derive(Clone, Copy)]
@@ -34,8 +34,7 @@ pub struct Records {
 }
 
 // Where the fields of an ink file stand: places of the first four, the length of the sealed blocks, the
-// number of remarks, and of each its kind, place and length. Zeros where there is nothing.
-// Kinds, places and lengths side by side: the C interface's struct has them so.
+// number of remarks, and their records. Zeros where there is nothing.
 #[derive(Clone, Copy)]
 pub struct Ink {
     pub pad_number: usize,
@@ -44,18 +43,15 @@ pub struct Ink {
     pub sealed_length: usize,
     pub tag: usize,
     pub count: usize,
-    pub kinds: [u8; 4],
-    pub offsets: [usize; 4],
-    pub lengths: [usize; 4],
+    pub remarks: [Record; 4],
 }
 
 // The length of the record that starts at a place.
-#[tactic(auto, unfolding(crate::specs::Reading::length_at))]
 fn length_at(file: &[u8], at: usize) -> usize
     requires { at + head_length ≤ length file.now }
     ensures { result ≡ R.length_at file.now at }
 {
-    word(file[at + 2], file[at + 3], file[at + 4], file[at + 5]) as usize
+    word_at(file, at + 2) as usize
 }
 
 // Record k of a file, which starts at a place.
@@ -130,8 +126,6 @@ pub fn read_ink(file: &[u8]) -> Result<Ink, Refusal>
         sealed_length: sealed.length,
         tag: tag.offset,
         count: found.count.saturating_sub(4),
-        kinds: [r0.kind, r1.kind, r2.kind, r3.kind],
-        offsets: [r0.offset, r1.offset, r2.offset, r3.offset],
-        lengths: [r0.length, r1.length, r2.length, r3.length],
+        remarks: [r0, r1, r2, r3],
     })
 }

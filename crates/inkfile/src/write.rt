@@ -7,7 +7,7 @@ ghost use Rattle.inkfile.specs.Format as F;
 ghost use Rattle.inkfile.specs.Writing as W;
 ghost use Rattle.inkfile.specs.WritingSteps as S;
 
-use crate::kind::fault;
+use crate::kind::{self, fault};
 use crate::layout;
 use cipher::refusal::Refusal;
 use words::word::bytes_of;
@@ -32,23 +32,17 @@ fn head(kind: u8, n: usize) -> [u8; 6]
     [layout::MARK, kind, b[0], b[1], b[2], b[3]]
 }
 
-// Bytes over those of out from a place on.
-fn put(out: &mut [u8], at: usize, b: &[u8])
-    requires { at + length b.now ≤ length out.old }
-    ensures { out.new ≡ overlaid out.old at b.now }
-{
-    out[at..at + b.len()].copy_from_slice(b);
-}
-
 // A record over the bytes of out from a place on; the place behind it.
 fn put_record(out: &mut [u8], at: usize, kind: u8, body: &[u8]) -> usize
     requires { at + F.head_length + length body.now ≤ length out.old }
     ensures { (result ≡ at + F.head_length + length body.now) × (out.new ≡ overlaid out.old at (F.record_of (kind, body.now))) }
 {
     let h = head(kind, body.len());
-    put(out, at, &h);
-    put(out, at + layout::HEAD, body);
-    at + layout::HEAD + body.len()
+    let start = at + layout::HEAD;
+    let end = start + body.len();
+    out[at..start].copy_from_slice(&h);
+    out[start..end].copy_from_slice(body);
+    end
 }
 
 impl Given<'_> {
@@ -57,10 +51,10 @@ impl Given<'_> {
         ensures { outcome_of result ≡ S.remarks_fault (S.given self.now).remarks }
     {
         for (i, kind) in self.kinds.iter().enumerate() {
-            if i == 4 {
+            let Some(body) = self.bodies.get(i) else {
                 return Err(Refusal::BadRecord);
-            }
-            fault(4 + i, *kind, self.bodies[i].len())?;
+            };
+            fault(4 + i, *kind, body.len())?;
         }
         Ok(())
     }
@@ -69,10 +63,10 @@ impl Given<'_> {
     fn fault(&self) -> Result<(), Refusal>
         ensures { outcome_of result ≡ S.fields_fault (S.given self.now) }
     {
-        fault(0, 0x01, self.number.len())?;
-        fault(1, 0x02, self.iv.len())?;
-        fault(2, 0x03, self.sealed.len())?;
-        fault(3, 0x04, self.tag.len())?;
+        fault(0, kind::PAD_NUMBER, self.number.len())?;
+        fault(1, kind::IV, self.iv.len())?;
+        fault(2, kind::SEALED, self.sealed.len())?;
+        fault(3, kind::TAG, self.tag.len())?;
         self.remarks_fault()
     }
 
@@ -93,10 +87,10 @@ impl Given<'_> {
         requires { S.fixed_size (S.given self.now) ≤ length out.old }
         ensures { (result ≡ S.fixed_size (S.given self.now)) × (out.new ≡ overlaid out.old 0 (S.fixed_bytes (S.given self.now))) }
     {
-        let a = put_record(out, 0, 0x01, self.number);
-        let b = put_record(out, a, 0x02, self.iv);
-        let c = put_record(out, b, 0x03, self.sealed);
-        put_record(out, c, 0x04, self.tag)
+        let a = put_record(out, 0, kind::PAD_NUMBER, self.number);
+        let b = put_record(out, a, kind::IV, self.iv);
+        let c = put_record(out, b, kind::SEALED, self.sealed);
+        put_record(out, c, kind::TAG, self.tag)
     }
 
     // The remarks that are given, from a place on.
@@ -105,8 +99,8 @@ impl Given<'_> {
         ensures { out.new ≡ overlaid out.old at (S.remarks_bytes (S.given self.now).remarks) }
     {
         let mut at = at;
-        for (i, kind) in self.kinds.iter().enumerate() {
-            at = put_record(out, at, *kind, self.bodies[i]);
+        for (kind, body) in self.kinds.iter().zip(&self.bodies) {
+            at = put_record(out, at, *kind, body);
         }
     }
 }

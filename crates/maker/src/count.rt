@@ -74,5 +74,5 @@ pub fn chain_draws(numbers: &Numbers, random: &[u8], plan: &Plan, r: usize) -> u
     let mut source = Source::new(numbers, random);
     sets_draw(&mut source, plan, lengths::SET_CODINGS * (r + 2));
     rounds_draw(&mut source, r);
-    source.drawn()
+    source.at
 }

@@ -1,5 +1,6 @@
 // The parts of a chain, drawn into a buffer in the order in which they stand (document 02, 2026-03). Each
-// function that draws moves a source on.
+// function that draws moves a source on. A source and a plan are no struct of both: of the functions here and in
+// count.rt, those of the rounds and their parts draw from a source and have no plan.
 ghost use Rattle.std.specs.Prelude.{◌≡◌, cond, false, ◌++◌, ◌+◌, ◌*◌, ◌≤◌, length, take, drop};
 ghost use Rattle.lists.specs.Tabulation.{chunks};
 ghost use Rattle.cipher.specs.Lengths.{coding_length, middles_length, round_codings_length};
@@ -62,7 +63,9 @@ fn draw_middles(source: &mut Source, out: &mut [u8])
     requires { Near 100000 source.old × (length out.old ≡ middles_length) }
     ensures { (source.new ≡ past M.middles_draw source.old) × (out.new ≡ M.middles_from (rest source.old)) }
 {
-    // Not by in_parts: its closure changes nothing but its part, and each part moves the source on.
+    // Not by in_parts: its closure changes nothing but its part, and each part moves the source on. Nor by
+    // chunks_exact_mut: after it a proof knows the parts' lengths and not their bytes. Nor by CODING * k: that was
+    // tried here and in draw_rounds, and making a chain took 1.07 of its time.
     let mut a: usize = 0;
     for k in 0..lengths::MIDDLES {
         let e = a + lengths::CODING;
@@ -96,7 +99,7 @@ pub fn draw_rounds(source: &mut Source, r: usize, out: &mut [u8])
     requires { (r ≤ 32) × Near 50000 source.old × (length out.old ≡ r * round_codings_length) }
     ensures { (source.new ≡ past (M.rounds_draw r) source.old) × (out.new ≡ M.rounds_from r (rest source.old)) }
 {
-    // Not by in_parts, as in draw_middles.
+    // Not by in_parts nor by ROUND_CODINGS * l, as in draw_middles.
     let mut a: usize = 0;
     for l in 0..r {
         let e = a + lengths::ROUND_CODINGS;

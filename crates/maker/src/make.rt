@@ -35,7 +35,7 @@ fn draw_chain(numbers: &Numbers, random: &[u8], size: KeySize, plan: &Plan, out:
         &mut out[0..sets],
     );
     draw_rounds(&mut source, r, &mut out[sets..end]);
-    source.drawn()
+    source.at
 }
 
 // A chain for a key of a known size into the front of out, if this and the random bytes suffice.

@@ -1,5 +1,5 @@
 -- `count::chain_draws` meets its contract.
-use Rattle.std.proofs.Common.{◌+◌, ◌*◌, refl, ◌∙◌, arith}
+use Rattle.std.proofs.Common.{◌+◌, ◌*◌, refl, arith}
 use Rattle.coding_maker.specs.Parts.{begins}
 use Rattle.coding_maker.proofs.DrawCounts.{within_begins}
 use Rattle.coding_maker.proofs.SourceLaws.{near_after}
@@ -19,4 +19,4 @@ pub returns : goal.returns
 returns c =
     let a = c.args in
     let s = c.new-source in
-    c.drawn.ensures ∙ chain_drawn (planned a.plan.now) a.random.now a.r a.r _ _ s.ensures.1 refl c.sets_draw.ensures _ s.ensures.0 c.rounds_draw.ensures
+    chain_drawn (planned a.plan.now) a.random.now a.r a.r _ _ s.ensures.1 refl c.sets_draw.ensures _ s.ensures.0 c.rounds_draw.ensures

@@ -34,7 +34,7 @@ returns c =
     let random = c.args.random.now in
     let new = c.new-source.ensures in
     let r = rounds c.args.size in (
-      c.drawn.ensures ∙ chain_drawn p random r q.result _ _ new.1 q.ensures c.draw_sets.ensures.0 _ new.0 c.draw_rounds.ensures.0,
+      chain_drawn p random r q.result _ _ new.1 q.ensures c.draw_sets.ensures.0 _ new.0 c.draw_rounds.ensures.0,
       rest_joined c.draw_sets.new.out c.draw_rounds.new.out c.args.out.now (512 * (q.result + 2)) (408 * q.result) room sets
           ∙ chain_made_lem p random r q.result _ _ new.1 q.ensures c.draw_sets.ensures.0 _ _ c.draw_sets.ensures.1 c.draw_rounds.ensures.1,
     )
