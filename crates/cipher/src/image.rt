@@ -11,6 +11,9 @@ use crate::invert::wide;
 use crate::lengths;
 use parts::in_parts;
 
+// What each byte becomes at each place of a block: byte v at place k stands at 256k + v.
+pub type Images = [u8; lengths::IMAGES];
+
 // What the sixteen bytes whose high half is h become at place k.
 fn image_row(set: &[u8], k: usize, h: usize, out: &mut [u8])
     requires { (k < block_length) × (h < 16) × (set_length ≤ length set.now) × LowSet set.now × (length out.old ≡ 16) }
@@ -33,8 +36,8 @@ pub fn images(set: &[u8], out: &mut [u8])
     });
 }
 
-// One block coded by such a table. A table is a slice with a length, and so is a set (block.rt), since
-// CLAIMS names the functions that are lent them: an array would ask more of their callers.
+// One block coded by such a table. Here and in images a table is a slice with a length, and so is a set
+// (block.rt), since CLAIMS names these functions: an array would ask more of their callers.
 pub fn look_up(images: &[u8], block: &[u8], out: &mut [u8])
     requires { (length images.now ≡ images_length) × (length block.now ≡ block_length) × (length out.old ≡ block_length) }
     ensures { out.new ≡ imaged images.now block.now }

@@ -2,7 +2,7 @@
 use Rattle.std.proofs.Common.{refl, ◌∙◌}
 use mathlib.Core.List.{flatten}
 use Rattle.lists.specs.Blocks.{cut}
-use Rattle.table_reader.proofs.ChunkLaws.{chunk_lent}
+use Rattle.lists.proofs.FirstChunks.{chunk_lent}
 use Rattle.driver.specs.Driver.{passed_from}
 use Rattle.driver.proofs.SealLaws.{passed_last, seal_end, seal_turn}
 use Rattle.driver.proofs.seal.seal_blocks.Goals as goal

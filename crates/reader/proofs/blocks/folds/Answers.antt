@@ -4,7 +4,7 @@ use Rattle.lists.specs.Tabulation.{chunks}
 use Rattle.lists.specs.Blocks.{block_before}
 use Rattle.lists.proofs.BlockBuffers.{made_next, made_more}
 use Rattle.cipher.specs.Tables.{table_fold}
-use Rattle.table_reader.proofs.ChunkLaws.{chunk_lent}
+use Rattle.lists.proofs.FirstChunks.{chunk_lent}
 use Rattle.reader.proofs.BlockLoops.{fold_of, length_fold, before_more}
 use Rattle.reader.proofs.blocks.folds.Goals as goal
 
