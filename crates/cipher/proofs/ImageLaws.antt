@@ -44,10 +44,6 @@ module _ (s : List ℕ) where
       ∙ sym (coded_each s b)
 
 -- the table of a set of half bytes is one of bytes
-pub length_images : (s : List ℕ) → length (images_of s) ≡ 4096
-unfolding images_of
-length_images s = length_tab 4096 (λ i. byte_coded s (i / 256) (i % 256))
-
 pub bytes_images : (s : List ℕ) → LowSet s → Bytes (images_of s)
 unfolding images_of
 bytes_images s h =

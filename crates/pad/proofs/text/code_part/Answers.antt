@@ -12,7 +12,7 @@ unfolding tab
 loop-i-init c =
     let a = c.args in
     let part : length (take (a.from + length a.part.now - a.from) (drop a.from a.out.now)) ≡ length a.part.now =
-    length_part a.out.now a.from (length a.part.now) c.requires.1 ∙ (omega arith) in
+    length_part a.out.now a.from (length a.part.now) c.requires ∙ (omega arith) in
     (part, refl)
 
 pub loop-i-preserved : goal.loop-i-preserved
