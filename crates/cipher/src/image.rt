@@ -7,7 +7,6 @@ ghost use Rattle.lists.specs.Tabulation.{tab};
 ghost use Rattle.cipher.specs.Coding.{LowSet, byte_coded};
 ghost use Rattle.cipher.specs.Images.{images_of, imaged};
 
-use crate::invert::wide;
 use crate::lengths;
 use parts::in_parts;
 
@@ -43,6 +42,6 @@ pub fn look_up(images: &[u8], block: &[u8], out: &mut [u8])
     ensures { out.new ≡ imaged images.now block.now }
 {
     for (k, code) in out.iter_mut().enumerate() {
-        *code = images[lengths::BYTES * k + wide(block[k])];
+        *code = images[lengths::BYTES * k + usize::from(block[k])];
     }
 }
