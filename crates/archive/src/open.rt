@@ -20,14 +20,6 @@ use cipher::lengths;
 use cipher::refusal::Refusal;
 use cipher::schedules::Key;
 
-// The first n bytes of a block over those of out from a place on.
-fn put_part(out: &mut [u8], at: usize, b: [u8; 16], n: usize)
-    requires { (n ≤ block_length) × (at + n ≤ length out.old) }
-    ensures { out.new ≡ take at out.old ++ take n b ++ drop (at + n) out.old }
-{
-    out[at..at + n].copy_from_slice(&b[0..n]);
-}
-
 // What each byte of a block decodes to in its place, by a set.
 fn decodings(set: &[u8], table: &mut Images)
     requires { LoneSet set.now }
@@ -49,7 +41,9 @@ fn open_text(sealed: &Sealed, out: &mut [u8]) -> Result<usize, Refusal>
     let last = sealed.open_block(k);
     let v = padding(last).ok_or(Refusal::BadPadding)?;
     sealed.open_blocks(k, out);
-    put_part(out, lengths::BLOCK * k, last, lengths::BLOCK - v);
+    let at = lengths::BLOCK * k;
+    let left = lengths::BLOCK - v;
+    out[at..at + left].copy_from_slice(&last[0..left]);
     Ok(n - v)
 }
 

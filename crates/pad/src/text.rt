@@ -7,7 +7,6 @@ ghost use Rattle.cipher.specs.Images.{image_at};
 ghost use Rattle.pad.specs.CodedParts.{coded_part};
 
 use cipher::image::{Images, images, look_up};
-use cipher::invert::wide;
 use cipher::lengths;
 use parts::in_parts;
 
@@ -34,7 +33,7 @@ fn code_part(images: &Images, from: usize, part: &[u8], out: &mut [u8])
 {
     let codes = &mut out[from..from + part.len()];
     for (i, code) in codes.iter_mut().enumerate() {
-        *code = images[lengths::BYTES * ((from + i) % lengths::BLOCK) + wide(part[i])];
+        *code = images[lengths::BYTES * ((from + i) % lengths::BLOCK) + usize::from(part[i])];
     }
 }
 

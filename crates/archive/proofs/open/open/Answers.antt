@@ -33,7 +33,7 @@ returns-then-out-file c =
     (sym c.bad_text.ensures ∙ c.if-bad_text.false) c.if-out-file.true)
 
 pub decodings-requires : goal.decodings-requires
-decodings-requires c = (set_checked_lem _ (sym c.in_ok-check_set.ensures), search rules)
+decodings-requires c = set_checked_lem _ (sym c.in_ok-check_set.ensures)
 
 pub invariant_of-sealed : goal.invariant_of-sealed
 invariant_of-sealed c = record {
