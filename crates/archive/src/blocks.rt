@@ -27,7 +27,8 @@ fn decoded(table: &Images, block: &[u8]) -> [u32; 4]
 }
 
 // Four blocks deciphered side by side: while one waits for its sums, the others go on. Of one block
-// RoundKeys::decipher makes the same; by a loop over one it would be no plainer.
+// RoundKeys::decipher makes the same, with no loop over blocks in the loop; that is by index here as
+// there (cipher's rows.rt).
 fn decipher_four(keys: &RoundKeys, blocks: [[u32; 4]; 4]) -> [[u32; 4]; 4]
     ensures { result ≡ map (L.backward keys.now.rows (S.rounds keys.now.size)) blocks }
 {

@@ -1,6 +1,6 @@
 -- Laws of LEA over any rows of words: a round is undone, so are the first n rounds, and deciphering and enciphering a
 -- block undo each other, both ways round.
-use Rattle.std.proofs.Common.{◌≡◌, ℕ, zero, suc, ◌+◌, ◌*◌, ◌^◌, ◌<◌, ◌≤◌, List, [], ◌∷◌, ◌++◌, get_or, take, refl, ap, ◌∙◌, add-one, arith, lit<, lit≤, get_or-take}
+use Rattle.std.proofs.Common.{◌≡◌, ℕ, zero, suc, ◌+◌, ◌*◌, ◌^◌, ◌<◌, ◌≤◌, List, [], ◌∷◌, ◌++◌, get_or, refl, ap, ◌∙◌, add-one, arith, lit<, lit≤}
 use lib.Bits.{bit_xor}
 use Rattle.words.proofs.RowLaws.{word_at_word}
 use Rattle.lists.specs.Tabulation.{tab}

@@ -1,6 +1,7 @@
 // The operations on a key and a block. Each refuses a schedule's number other than 0 and 1 (34), a key of
 // no known size (1), then a block that is not of 16 bytes (7). A schedule's number and a key stay side by
-// side: so the C interface has them.
+// side: so the C interface has them. It has encipher and decipher too, which differ in one call, the one
+// in the inverse of the other's.
 ghost use Rattle.std.specs.Prelude.{◌≡◌};
 ghost use Rattle.cipher.specs.Answers.{block_told, row_told, encipher_answer, decipher_answer, rounds_answer, row_answer};
 

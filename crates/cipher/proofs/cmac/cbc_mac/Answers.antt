@@ -1,5 +1,5 @@
 -- `cmac::cbc_mac` meets its contract. The invariant: the chaining value after the blocks so far.
-use Rattle.std.proofs.Common.{◌≡◌, ℕ, ◌*◌, List, take, drop, sym, ap, ◌∙◌, arith}
+use Rattle.std.proofs.Common.{◌≡◌, ℕ, ◌*◌, take, drop, sym, ap, ◌∙◌, arith}
 use Rattle.lists.specs.Blocks.{Bytes, zeros, cut}
 use Rattle.lists.proofs.BlockLaws.{bytes_of_lem, bytes_take, bytes_drop, block_zeros}
 use Rattle.lists.proofs.FirstChunks.{chunk_lent, lent_count}

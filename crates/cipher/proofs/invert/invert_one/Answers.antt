@@ -1,5 +1,5 @@
 -- `invert::invert_one` meets its contract. The invariant: each number below v stands at its image.
-use Rattle.std.proofs.Common.{◌≡◌, ◌+◌, ◌-◌, ◌*◌, ◌<◌, length, take, drop, sym, ◌∙◌, not-suc-le-zero, arith, length-set}
+use Rattle.std.proofs.Common.{◌*◌, ◌<◌, sym, ◌∙◌, not-suc-le-zero, arith, length-set}
 use Rattle.lists.proofs.PartLaws.{length_part, get_or_part}
 use Rattle.cipher.specs.Coding.{coding_at}
 use Rattle.cipher.proofs.Permutation.{inverse_is, placed_turn}

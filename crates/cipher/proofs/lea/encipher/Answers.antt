@@ -1,5 +1,5 @@
 -- `lea::encipher` meets its contract.
-use Rattle.std.proofs.Common.{sym, refl, ap, ◌∙◌}
+use Rattle.std.proofs.Common.{sym, ap, ◌∙◌}
 use Rattle.cipher.specs.KeySize.{rounds}
 use Rattle.cipher.specs.Answers.{block_told}
 use Rattle.cipher.specs.Lea as L

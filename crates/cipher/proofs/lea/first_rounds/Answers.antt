@@ -1,5 +1,5 @@
 -- `lea::first_rounds` meets its contract.
-use Rattle.std.proofs.Common.{ℕ, cond, leb, sym, ap, ◌∙◌, arith}
+use Rattle.std.proofs.Common.{cond, leb, sym, ap, ◌∙◌, arith}
 use Rattle.cipher.specs.KeySize.{rounds}
 use Rattle.cipher.specs.Answers.{block_told}
 use Rattle.cipher.specs.Lea as L

@@ -1,5 +1,5 @@
 -- `lea::round_keys` meets its contract.
-use Rattle.std.proofs.Common.{ℕ, ◌%◌, ◌<◌, List, [], get_or, sym, ap, ◌∙◌, mod-lt, arith}
+use Rattle.std.proofs.Common.{ℕ, ◌%◌, List, [], get_or, sym, ap, ◌∙◌}
 use Rattle.lists.specs.Refusals.{first}
 use Rattle.cipher.specs.Schedules.{key_rows}
 use Rattle.cipher.specs.Answers.{row_told}
@@ -8,7 +8,6 @@ use Rattle.words.specs.Rows.{blank}
 use Rattle.cipher.specs.declared.size.KeySize.{KeySize}
 use Rattle.cipher.specs.declared.schedules.Schedule.{Schedule}
 use Rattle.cipher.proofs.PassedLaws.{passed}
-use Rattle.cipher.proofs.KeySizeLaws.{rounds_le, rounds_more}
 use Rattle.cipher.proofs.SchedulesLaws.{key_named, rows_named}
 use Rattle.cipher.proofs.AnswerLaws.{kind_refused, key_taken}
 use Rattle.cipher.proofs.lea.round_keys.Goals as goal
