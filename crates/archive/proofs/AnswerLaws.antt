@@ -14,7 +14,7 @@ use Rattle.lists.specs.Blocks.{Bytes}
 use Rattle.cipher.specs.KeySize.{rounds, size_of_key}
 use Rattle.cipher.specs.Refusal.{number_of}
 use Rattle.cipher.specs.Lea.{first_rounds, encipher, decipher}
-use Rattle.cipher.specs.Schedules.{schedule_found, Named, key_kind, key_rows}
+use Rattle.cipher.specs.Schedules.{schedule_found, Named, key_read, key_rows}
 use Rattle.cipher.specs.Cmac.{cmac}
 use Rattle.cipher.specs.Coding.{Permutations, set_of, coded, decoded}
 use Rattle.cipher.specs.Chain.{LoneSet, set_tests}
@@ -48,7 +48,7 @@ module _ (s : ℕ) (key set message tag : List ℕ) where
   check_1 k n e = key_refused s key (λ k z. set_tests set ++ rest) (λ q. (q, 0)) verdict k n e
 
   -- both, as what is told of number and key tells them
-  pub check_kind : (q : Refusal) → Err q ≡ key_kind s key → check_answer s key set message tag ≡ (number_of q, 0)
+  pub check_kind : (q : Refusal) → Err q ≡ key_read s key → check_answer s key set message tag ≡ (number_of q, 0)
   unfolding check_answer verdict rest
   check_kind q e = kind_refused s key (λ k z. set_tests set ++ rest) (λ q. (q, 0)) verdict q e
 
@@ -130,7 +130,7 @@ module _ (s : ℕ) (key set iv sealed out : List ℕ) where
   unfolding open_answer left opened text after set_tests others go
   open_1 k n e = key_refused s key others left go k n e
 
-  pub open_kind : (q : Refusal) → Err q ≡ key_kind s key → open_answer s key set iv sealed out ≡ ((number_of q, 0), out)
+  pub open_kind : (q : Refusal) → Err q ≡ key_read s key → open_answer s key set iv sealed out ≡ ((number_of q, 0), out)
   unfolding open_answer left opened text after set_tests others go
   open_kind q e = kind_refused s key others left go q e
 

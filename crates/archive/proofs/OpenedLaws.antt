@@ -3,9 +3,10 @@ use mathlib.Core.Path.{◌≡◌, sym, ap, ap₂, ◌∙◌, subst}
 use mathlib.Core.Bool.{true, false, not}
 use mathlib.Core.List.{List, [], ◌++◌}
 use Prim.Native.Nat.{ℕ, ◌+◌, ◌-◌, ◌*◌, ◌/◌, ◌%◌, ◌<◌, ◌≤◌}
+use native.Mathlib.Nat.{le_of_eq}
 use native.Mathlib.Omega.{arith}
 use lib.ListN.{length, take, drop, length-append}
-use lib.Seq.{length-take-le}
+use lib.Seq.{length-take-le, take_all}
 use Rattle.std.specs.Prelude.{Some, None}
 use Rattle.words.specs.Rows.{RowsOfWords}
 use Rattle.lists.specs.Tabulation.{chunks}
@@ -24,8 +25,8 @@ use Rattle.cipher.specs.declared.size.KeySize.{KeySize}
 use Rattle.cipher.specs.declared.schedules.Schedule.{Schedule}
 use Rattle.cipher.proofs.SchedulesLaws.{key_words}
 use Rattle.cipher.proofs.InverseLaws.{length_inverted, low_inverted}
-use Rattle.cipher.proofs.ImageLaws.{length_images, bytes_images}
-use Rattle.archive.specs.Blocks.{Table, opened_block}
+use Rattle.cipher.proofs.ImageLaws.{bytes_images}
+use Rattle.archive.specs.Blocks.{opened_block}
 use Rattle.archive.specs.Archive.{last_byte, ends_padded, unpadded, text_answer, open_answer}
 use Rattle.archive.proofs.OpenLaws.{opened_text_lem, opened_alike, decoded_imaged, chunks_length}
 use Rattle.archive.proofs.PaddingLaws.{padded, ends_text, unpadded_text, padding_none, padding_some, few}
@@ -43,8 +44,8 @@ set_inverts s v = (
 pub codes_ready : (s t : List ℕ) → LoneSet s → t ≡ inverted 32 s → (512 ≤ length t) × LowSet t
 codes_ready s t v e = rw e (omega (arith, length_inverted 32 s), low_inverted s v.codings)
 
-pub table_ready : (s t : List ℕ) → LoneSet s → t ≡ images_of (inverted 32 s) → Table t
-table_ready s t v e = rw e (length_images (inverted 32 s), bytes_images (inverted 32 s) (low_inverted s v.codings))
+pub table_ready : (s t : List ℕ) → LoneSet s → t ≡ images_of (inverted 32 s) → Bytes t
+table_ready s t v e = rw e (bytes_images (inverted 32 s) (low_inverted s v.codings))
 
 pub rows_ready : (k : Schedule) (z : KeySize) (key : List ℕ) (rows : List (List ℕ)) → rows ≡ key_rows k z key → Bytes key → RowsOfWords rows
 rows_ready k z key rows e h = rw e (key_words k z key h)
@@ -101,12 +102,12 @@ module _ (g : ℕ → List ℕ) (size : (k : ℕ) → length (g k) ≡ 16) (n : 
 
 module _ (s : ℕ) (key set iv sealed out : List ℕ) (j : Schedule) (z : KeySize) (ek : Named s key j z) (v : LoneSet set) (l : length iv ≡ 16)
     (d : bad_text (length sealed) ≡ false) (w : length sealed ≤ length out) (hi : Bytes iv) (hs : Bytes sealed) where
-  pub open_is : (rows : List (List ℕ)) (z₁ : KeySize) (table : List ℕ) (a : (ℕ × ℕ) × List ℕ) → rows ≡ key_rows j z key → z₁ ≡ z → table ≡ images_of (inverted 32 set)
-      → a ≡ text_answer (chunks (length sealed / 16) (opened_block rows (rounds z₁) (imaged table) iv sealed)) out
+  pub open_is : (rows : List (List ℕ)) (z₁ : KeySize) (table b : List ℕ) (a : (ℕ × ℕ) × List ℕ) → rows ≡ key_rows j z key → z₁ ≡ z → table ≡ images_of (inverted 32 set)
+      → b ≡ take 16 iv → a ≡ text_answer (chunks (length sealed / 16) (opened_block rows (rounds z₁) (imaged table) b sealed)) out
       → a ≡ open_answer s key set iv sealed out
-  open_is rows z₁ table a er ez et e =
-      let same : opened_block rows (rounds z₁) (imaged table) iv sealed ≡ opened_block (key_rows j z key) (rounds z) (decoded (set_of set)) iv sealed =
-      (λ i. opened_block (er i) (rounds (ez i)) (imaged (et i)) iv sealed)
+  open_is rows z₁ table b a er ez et eb e =
+      let same : opened_block rows (rounds z₁) (imaged table) b sealed ≡ opened_block (key_rows j z key) (rounds z) (decoded (set_of set)) iv sealed =
+      (λ i. opened_block (er i) (rounds (ez i)) (imaged (et i)) ((eb ∙ take_all 16 iv (le_of_eq l)) i) sealed)
       ∙ opened_alike (key_rows j z key) (rounds z) (imaged (images_of (inverted 32 set))) (decoded (set_of set)) (decoded_imaged set) iv sealed hi hs in
       e
       ∙ ap (λ (t : List ℕ). text_answer t out)

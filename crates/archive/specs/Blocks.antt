@@ -1,12 +1,7 @@
 -- A sealed text opened block by block, where f decodes a block, under any rows: inner functions' own words for `opened_text`.
-use Rattle.std.specs.Prelude.{◌≡◌, List, ℕ, length}
-use Rattle.cipher.specs.Lengths.{images_length}
-use Rattle.lists.specs.Blocks.{Bytes, xor_block, block_of, block_before}
+use Rattle.std.specs.Prelude.{List, ℕ}
+use Rattle.lists.specs.Blocks.{xor_block, block_of, block_before}
 use Rattle.cipher.specs.Lea.{undone_rounds}
-
--- a byte for each byte in each place of a block
-abbrev pub Table : List ℕ → Type 0
-Table t = (length t ≡ images_length) × Bytes t
 
 -- block k opened
 unfoldable pub opened_block : List (List ℕ) → ℕ → (List ℕ → List ℕ) → List ℕ → List ℕ → ℕ → List ℕ

@@ -1,26 +1,24 @@
 // Sealed blocks opened: decoded by a table that has a byte for each byte in each place of a block, then
 // deciphered in CBC.
 ghost use Rattle.std.specs.Prelude.{◌≡◌, ◌++◌, ◌+◌, ◌*◌, ◌≤◌, length, drop, map};
-ghost use Rattle.cipher.specs.Lengths.{images_length};
-ghost use Rattle.lists.specs.Blocks.{block_length, block_of, block_before};
+ghost use Rattle.lists.specs.Blocks.{Bytes, block_length, block_of, block_before};
 ghost use Rattle.lists.specs.Tabulation.{chunks};
 ghost use Rattle.cipher.specs.KeySize as S;
 ghost use Rattle.words.specs.Word.{words4};
 ghost use Rattle.words.specs.Rows.{RowsOfWords};
 ghost use Rattle.cipher.specs.Lea as L;
 ghost use Rattle.cipher.specs.Images.{imaged};
-ghost use Rattle.archive.specs.Blocks.{Table};
 
 use cipher::block::put_block;
-use cipher::image::look_up;
+use cipher::image::{Images, look_up};
 use cipher::lengths;
 use cipher::round::four_unrounds;
 use cipher::rows::RoundKeys;
 use words::word::{bytes, words, xor};
 
 // A block decoded, in words.
-fn decoded(table: &[u8], block: &[u8]) -> [u32; 4]
-    requires { (length table.now ≡ images_length) × (length block.now ≡ block_length) }
+fn decoded(table: &Images, block: &[u8]) -> [u32; 4]
+    requires { length block.now ≡ block_length }
     ensures { result ≡ words4 (imaged table.now block.now) }
 {
     let mut b = [0u8; 16];
@@ -29,7 +27,8 @@ fn decoded(table: &[u8], block: &[u8]) -> [u32; 4]
 }
 
 // Four blocks deciphered side by side: while one waits for its sums, the others go on. Of one block
-// RoundKeys::decipher makes the same; by a loop over one it would be no plainer.
+// RoundKeys::decipher makes the same, with no loop over blocks in the loop; that is by index here as
+// there (cipher's rows.rt).
 fn decipher_four(keys: &RoundKeys, blocks: [[u32; 4]; 4]) -> [[u32; 4]; 4]
     ensures { result ≡ map (L.backward keys.now.rows (S.rounds keys.now.size)) blocks }
 {
@@ -54,12 +53,11 @@ fn decipher_four(keys: &RoundKeys, blocks: [[u32; 4]; 4]) -> [[u32; 4]; 4]
 #[derive(Clone, Copy)]
 pub struct Sealed<'a> {
     pub keys: &'a RoundKeys,
-    pub table: &'a [u8],
-    pub iv: &'a [u8],
+    pub table: &'a Images,
+    pub iv: [u8; 16],
     pub text: &'a [u8],
     ghost keyed: { RowsOfWords keys.now.rows },
-    ghost decodes: { Table table.now },
-    ghost begun: { length iv.now ≡ block_length },
+    ghost decodes: { Bytes table.now },
 }
 
 impl<'a> Sealed<'a> {
@@ -77,10 +75,10 @@ impl<'a> Sealed<'a> {
     // What stands in front of block k, decoded, in words.
     fn words_before(&self, k: usize) -> [u32; 4]
         requires { block_length * k ≤ length self.now.text.now }
-        ensures { result ≡ words4 (imaged self.now.table.now (block_before self.now.iv.now self.now.text.now k)) }
+        ensures { result ≡ words4 (imaged self.now.table.now (block_before self.now.iv self.now.text.now k)) }
     {
         if k == 0 {
-            return decoded(self.table, self.iv);
+            return decoded(self.table, &self.iv);
         }
         self.words_of(k - 1)
     }

@@ -8,7 +8,7 @@ use cipher::block::code_block;
 use cipher::chain::check_set;
 use cipher::lengths;
 use cipher::refusal::Refusal;
-use cipher::schedules::KeyKind;
+use cipher::schedules::Key;
 
 // The verdict on a tag.
 #[derive(Clone, Copy, Debug, PartialEq, Eq)]
@@ -39,7 +39,7 @@ pub fn check(
 ) -> Result<Verdict, Refusal>
     ensures { R.checked_told result ≡ R.check_answer schedule key.now set.now message.now tag.now }
 {
-    let kind = KeyKind::of(schedule, key)?;
+    let key = Key::of(schedule, key)?;
     check_set(set)?;
     if tag.len() != lengths::BLOCK {
         return Err(Refusal::BlockLength);
@@ -47,7 +47,7 @@ pub fn check(
     if lengths::LONGEST_MESSAGE < message.len() {
         return Err(Refusal::MessageLength);
     }
-    let mac = cmac(&kind.round_keys(key), message);
+    let mac = cmac(&key.round_keys(), message);
     if same(code_block(set, mac), tag) {
         Ok(Verdict::Valid)
     } else {

@@ -1,6 +1,6 @@
 // Opening a sealed file (document 01, "Pad, driver, archive").
 ghost use Rattle.std.specs.Prelude.{◌≡◌, ◌++◌, ◌+◌, ◌/◌, ◌%◌, ◌<◌, ◌≤◌, length, take, drop};
-ghost use Rattle.cipher.specs.Lengths.{images_length, longest_code};
+ghost use Rattle.cipher.specs.Lengths.{longest_code};
 ghost use Rattle.lists.specs.Blocks.{block_length};
 ghost use Rattle.lists.specs.Tabulation.{chunks};
 ghost use Rattle.cipher.specs.Refusal.{written_of};
@@ -12,25 +12,17 @@ ghost use Rattle.archive.specs.Archive as R;
 
 use crate::blocks::Sealed;
 use crate::padding::padding;
-use cipher::block::bad_text;
+use cipher::block::{bad_text, block_at};
 use cipher::chain::check_set;
-use cipher::image::images;
+use cipher::image::{Images, images};
 use cipher::invert::invert;
 use cipher::lengths;
 use cipher::refusal::Refusal;
-use cipher::schedules::KeyKind;
-
-// The first n bytes of a block over those of out from a place on.
-fn put_part(out: &mut [u8], at: usize, b: [u8; 16], n: usize)
-    requires { (n ≤ block_length) × (at + n ≤ length out.old) }
-    ensures { out.new ≡ take at out.old ++ take n b ++ drop (at + n) out.old }
-{
-    out[at..at + n].copy_from_slice(&b[0..n]);
-}
+use cipher::schedules::Key;
 
 // What each byte of a block decodes to in its place, by a set.
-fn decodings(set: &[u8], table: &mut [u8])
-    requires { LoneSet set.now × (length table.old ≡ images_length) }
+fn decodings(set: &[u8], table: &mut Images)
+    requires { LoneSet set.now }
     ensures { table.new ≡ images_of (inverted 32 set.now) }
 {
     let mut codes = [0u8; lengths::SET];
@@ -49,7 +41,9 @@ fn open_text(sealed: &Sealed, out: &mut [u8]) -> Result<usize, Refusal>
     let last = sealed.open_block(k);
     let v = padding(last).ok_or(Refusal::BadPadding)?;
     sealed.open_blocks(k, out);
-    put_part(out, lengths::BLOCK * k, last, lengths::BLOCK - v);
+    let at = lengths::BLOCK * k;
+    let left = lengths::BLOCK - v;
+    out[at..at + left].copy_from_slice(&last[0..left]);
     Ok(n - v)
 }
 
@@ -65,7 +59,7 @@ pub fn open(
 ) -> Result<usize, Refusal>
     ensures { (written_of result, out.new) ≡ R.open_answer schedule key.now set.now iv.now file.now out.old }
 {
-    let kind = KeyKind::of(schedule, key)?;
+    let key = Key::of(schedule, key)?;
     check_set(set)?;
     if iv.len() != lengths::BLOCK {
         return Err(Refusal::BlockLength);
@@ -76,13 +70,13 @@ pub fn open(
     if out.len() < file.len() {
         return Err(Refusal::ShortBuffer);
     }
-    let keys = kind.round_keys(key);
+    let keys = key.round_keys();
     let mut table = [0u8; lengths::IMAGES];
     decodings(set, &mut table);
     let sealed = Sealed {
         keys: &keys,
         table: &table,
-        iv,
+        iv: block_at(iv, 0),
         text: file,
     };
     open_text(&sealed, out)

@@ -4,7 +4,6 @@ ghost use Rattle.lists.specs.Blocks.{block_length};
 ghost use Rattle.lists.specs.Every.{every};
 ghost use Rattle.archive.specs.Archive.{ends_padded, last_byte};
 
-use cipher::invert::wide;
 use cipher::lengths;
 
 // The last byte of a block.
@@ -15,14 +14,14 @@ fn ends_with(b: [u8; 16], v: usize) -> bool
     requires { v ≤ block_length }
     ensures { result ≡ every v (λ k. eqb (get_or b (block_length - v + k) 0) v) }
 {
-    b[lengths::BLOCK - v..].iter().all(|x| wide(*x) == v)
+    b[lengths::BLOCK - v..].iter().all(|x| usize::from(*x) == v)
 }
 
 // How many bytes of padding the last block of a text ends with, or none where its end is no padding.
 pub fn padding(b: [u8; 16]) -> Option<usize>
     ensures { result ≡ cond (ends_padded b) (Some (last_byte b)) None }
 {
-    let v = wide(b[LAST]);
+    let v = usize::from(b[LAST]);
     if v == 0 || lengths::BLOCK < v {
         return None;
     }

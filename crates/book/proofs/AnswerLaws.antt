@@ -10,7 +10,7 @@ use Rattle.std.proofs.Common.{Some, None, Err, refl}
 use Rattle.lists.specs.Refusals.{first}
 use Rattle.cipher.specs.Refusal.{number_of}
 use Rattle.cipher.specs.KeySize.{rounds, size_of_key}
-use Rattle.cipher.specs.Schedules.{schedule_found, Named, key_kind, key_rows}
+use Rattle.cipher.specs.Schedules.{schedule_found, Named, key_read, key_rows}
 use Rattle.cipher.specs.Book.{book_round}
 use Rattle.cipher.proofs.KeySizeLaws.{rounds_more}
 use Rattle.cipher.specs.Chain.{ChainBy, chain_tests_by}
@@ -39,7 +39,7 @@ module _ (from to s : ℕ) (key ch out : List ℕ) (len : KeySize → ℕ) (part
   built_key k n e = key_refused s key tests (λ n. (n, out)) done k n e
 
   -- the same by what is told of number and key together
-  pub built_refused : (q : Refusal) → Err q ≡ key_kind s key → built_into from to s key ch out len part ≡ (number_of q, out)
+  pub built_refused : (q : Refusal) → Err q ≡ key_read s key → built_into from to s key ch out len part ≡ (number_of q, out)
   unfolding built_into tests done
   built_refused q e = kind_refused s key tests (λ n. (n, out)) done q e
 

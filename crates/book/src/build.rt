@@ -17,7 +17,7 @@ use cipher::cmac::subkeys;
 use cipher::lengths;
 use cipher::refusal::Refusal;
 use cipher::rows::RoundKeys;
-use cipher::schedules::KeyKind;
+use cipher::schedules::Key;
 use table_maker::sets::ChainSet;
 
 // The body of the book of a valid chain, into a buffer of its length.
@@ -46,14 +46,14 @@ fn fill(keys: &RoundKeys, chain: &[u8], out: &mut [u8])
 pub fn build(schedule: u8, key: &[u8], chain: &[u8], out: &mut [u8]) -> Result<(), Refusal>
     ensures { (outcome_of result, out.new) ≡ build_answer schedule key.now chain.now out.old }
 {
-    let kind = KeyKind::of(schedule, key)?;
-    check_sized(kind.size, chain)?;
-    let end = kind.size.book_len();
+    let key = Key::of(schedule, key)?;
+    check_sized(key.size, chain)?;
+    let end = key.size.book_len();
     if out.len() < end {
         return Err(Refusal::ShortBuffer);
     }
-    out[0] = kind.size.key_len() as u8;
-    fill(&kind.round_keys(key), chain, &mut out[lengths::BODY..end]);
+    out[0] = key.size.key_len() as u8;
+    fill(&key.round_keys(), chain, &mut out[lengths::BODY..end]);
     Ok(())
 }
 
@@ -68,14 +68,14 @@ pub fn build_round(
 ) -> Result<(), Refusal>
     ensures { (outcome_of result, out.new) ≡ build_round_answer schedule key.now chain.now l out.old }
 {
-    let kind = KeyKind::of(schedule, key)?;
-    check_sized(kind.size, chain)?;
+    let key = Key::of(schedule, key)?;
+    check_sized(key.size, chain)?;
     if out.len() < lengths::ROUND_TABLES {
         return Err(Refusal::ShortBuffer);
     }
-    let at = l % kind.size.rounds();
+    let at = l % key.size.rounds();
     round_at(
-        &kind.round_keys(key),
+        &key.round_keys(),
         chain,
         at,
         &mut out[0..lengths::ROUND_TABLES],

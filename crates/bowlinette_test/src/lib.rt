@@ -14,7 +14,7 @@ ghost use Rattle.roundtrip.specs.Roundtrips.{tag_roundtrip, seal_roundtrip};
 use bowlinette::{deliver, deliver_length, deliver_verdict};
 use cipher::lengths;
 use cipher::refusal::Refusal;
-use cipher::schedules::KeyKind;
+use cipher::schedules::Key;
 use words::word::bytes;
 
 // How many bytes a message has at most that with its padding is one block of SHA-256.
@@ -24,8 +24,8 @@ const ONE_BLOCK: usize = 55;
 fn cbc_mac(schedule: u8, key: &[u8], text: &[u8]) -> Result<[u8; 16], Refusal>
     ensures { block_told result ≡ cbc_mac_answer schedule key.now text.now }
 {
-    let kind = KeyKind::of(schedule, key)?;
-    let keys = kind.round_keys(key);
+    let key = Key::of(schedule, key)?;
+    let keys = key.round_keys();
     let x = cipher::cmac::cbc_mac(&keys, text, text.len() / lengths::BLOCK);
     Ok(bytes(x))
 }

@@ -7,7 +7,7 @@ use Rattle.lists.specs.Refusals.{first}
 use Rattle.lists.proofs.RefusalLaws.{first_hit, first_pass}
 use Rattle.cipher.specs.KeySize.{key_length, size_of_key}
 use Rattle.words.specs.Word.{words4, bytes}
-use Rattle.cipher.specs.Schedules.{schedule_found, Named, kind_of, key_kind, key_rows}
+use Rattle.cipher.specs.Schedules.{schedule_found, Named, key_of, key_read, key_rows}
 use Rattle.cipher.specs.Answers.{key_length_tests, key_tests, block_tests, bad_text, text_tests, room_tests, schedule_of, key_length_size, key_size, on_block}
 use Rattle.cipher.specs.Refusal.{number_of}
 use Rattle.cipher.specs.declared.refusal.Refusal.{Refusal}
@@ -71,12 +71,12 @@ module _ {A : Type 0} (s : ℕ) (key : List ℕ) (ts : Schedule → KeySize → 
 
 -- the same by what is told of number and key together
 module _ {A : Type 0} (s : ℕ) (key : List ℕ) (ts : Schedule → KeySize → List (Bool × ℕ)) (refuse : ℕ → A) (go : Schedule → KeySize → A) (q : Refusal) where
-  pub kind_refused : Err q ≡ key_kind s key
+  pub kind_refused : Err q ≡ key_read s key
       → first (key_tests s key ++ ts (schedule_of s) (key_size key)) refuse (go (schedule_of s) (key_size key)) ≡ refuse (number_of q)
-  unfolding kind_of
+  unfolding key_of
   kind_refused = each (schedule_found s) refl (size_of_key (length key)) refl
     where
-      each : (a : Option Schedule) → schedule_found s ≡ a → (b : Option KeySize) → size_of_key (length key) ≡ b → Err q ≡ kind_of a b
+      each : (a : Option Schedule) → schedule_found s ≡ a → (b : Option KeySize) → size_of_key (length key) ≡ b → Err q ≡ key_of a b key
           → first (key_tests s key ++ ts (schedule_of s) (key_size key)) refuse (go (schedule_of s) (key_size key)) ≡ refuse (number_of q)
       each None p b n e =
           let w : q ≡ ScheduleNumber = cc in
@@ -98,7 +98,7 @@ module _ (s : ℕ) (key b : List ℕ) (f : Schedule → KeySize → List ℕ) wh
   unfolding on_block made
   on_key k e h = key_refused s key (λ k z. block_tests b) (λ n. (n, zeros)) made k e h
 
-  pub on_refused : (q : Refusal) → Err q ≡ key_kind s key → on_block s key b f ≡ (number_of q, zeros)
+  pub on_refused : (q : Refusal) → Err q ≡ key_read s key → on_block s key b f ≡ (number_of q, zeros)
   unfolding on_block made
   on_refused q e = kind_refused s key (λ k z. block_tests b) (λ n. (n, zeros)) made q e
 

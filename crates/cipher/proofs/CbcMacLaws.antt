@@ -1,11 +1,11 @@
 -- Laws of CMAC's chaining: one block more, that the chaining value is a block, and a turn of the loop in words.
 use Rattle.std.proofs.Common.{◌≡◌, ℕ, ◌+◌, ◌*◌, List, [], ◌∷◌, ◌++◌, take, drop, sym, refl, ap, ◌∙◌, ap₂, add-one}
 use Rattle.lists.specs.Blocks.{Bytes, Block, xor_block, cut}
-use Rattle.lists.proofs.BlockLaws.{bytes_take, block_xor, cut_more}
+use Rattle.lists.proofs.BlockLaws.{block_xor, cut_more}
 use Rattle.words.specs.Word.{xor_words, words4}
 use Rattle.cipher.specs.Lea.{forward, first_rounds}
 use Rattle.cipher.specs.Cmac.{cbc_mac}
-use Rattle.cipher.proofs.LeaLaws.{forward_words, words_bytes, words_take, words_xor, words_four, block_rounds}
+use Rattle.cipher.proofs.LeaLaws.{forward_words, words_bytes, words_xor, words_four, block_rounds}
 
 -- one block more
 mac_last : (cipher : List ℕ → List ℕ) (x : List ℕ) (bs : List (List ℕ)) (b : List ℕ)
@@ -25,14 +25,12 @@ module _ (rows : List (List ℕ)) (r : ℕ) where
   mac_block x [] h = h
   mac_block x (b ∷ bs) h = mac_block (first_rounds rows r (xor_block x b)) bs (block_rounds rows r (xor_block x b))
 
-  -- a turn of the loop, in words: X is the chaining value so far and t the text from the block on
-  pub mac_turn : (X t x m y : List ℕ) → Block X → Bytes t → x ≡ words4 X → m ≡ words4 t → y ≡ forward rows r (xor_words x m)
-      → y ≡ words4 (first_rounds rows r (xor_block X (take 16 t)))
+  -- a turn of the loop, in words: X is the chaining value so far and b the block
+  pub mac_turn : (X b x m y : List ℕ) → Block X → Bytes b → x ≡ words4 X → m ≡ words4 b → y ≡ forward rows r (xor_words x m)
+      → y ≡ words4 (first_rounds rows r (xor_block X b))
   unfolding first_rounds
-  mac_turn X t x m y hX ht ex em ey =
-      let low = bytes_take 16 t ht in
-      let e : xor_words x m ≡ words4 (xor_block X (take 16 t)) =
-      ap₂ xor_words ex (em ∙ sym (words_take t)) ∙ sym (words_xor X (take 16 t) hX.bytes low) in
+  mac_turn X b x m y hX hb ex em ey =
+      let e : xor_words x m ≡ words4 (xor_block X b) = ap₂ xor_words ex em ∙ sym (words_xor X b hX.bytes hb) in
       ey
       ∙ ap (forward rows r) e
-      ∙ sym (words_bytes (forward_words rows r (words_four (xor_block X (take 16 t)) (block_xor X (take 16 t) hX.bytes low).bytes)))
+      ∙ sym (words_bytes (forward_words rows r (words_four (xor_block X b) (block_xor X b hX.bytes hb).bytes)))

@@ -1,8 +1,8 @@
 -- The table of images: how its rows make it, and that a block coded by it is the block coded by the set.
-use Rattle.std.proofs.Common.{◌≡◌, ℕ, ◌+◌, ◌*◌, ◌/◌, ◌%◌, ◌<◌, List, length, get_or, sym, ap, ◌∙◌, ap₂, arith, lit<}
+use Rattle.std.proofs.Common.{◌≡◌, ℕ, ◌+◌, ◌*◌, ◌/◌, ◌%◌, ◌<◌, List, get_or, sym, ap, ◌∙◌, ap₂, arith, lit<}
 use Rattle.lists.specs.Tabulation.{tab, chunks}
 use Rattle.lists.specs.Blocks.{Bytes, Block}
-use Rattle.lists.proofs.TabulationLaws.{length_tab, get_or_tab, tab_ext, tab_below}
+use Rattle.lists.proofs.TabulationLaws.{get_or_tab, tab_ext, tab_below}
 use Rattle.lists.proofs.ChunkLaws.{tab_rows}
 use Rattle.lists.proofs.BlockLaws.{block_tab}
 use Rattle.cipher.specs.Coding.{LowSet, set_of, byte_coded, coded}
@@ -44,10 +44,6 @@ module _ (s : List ℕ) where
       ∙ sym (coded_each s b)
 
 -- the table of a set of half bytes is one of bytes
-pub length_images : (s : List ℕ) → length (images_of s) ≡ 4096
-unfolding images_of
-length_images s = length_tab 4096 (λ i. byte_coded s (i / 256) (i % 256))
-
 pub bytes_images : (s : List ℕ) → LowSet s → Bytes (images_of s)
 unfolding images_of
 bytes_images s h =

@@ -1,6 +1,6 @@
 -- Laws of LEA over any rows of words: a round is undone, so are the first n rounds, and deciphering and enciphering a
 -- block undo each other, both ways round.
-use Rattle.std.proofs.Common.{◌≡◌, ℕ, zero, suc, ◌+◌, ◌*◌, ◌^◌, ◌<◌, ◌≤◌, List, [], ◌∷◌, ◌++◌, get_or, take, refl, ap, ◌∙◌, add-one, arith, lit<, lit≤, get_or-take}
+use Rattle.std.proofs.Common.{◌≡◌, ℕ, zero, suc, ◌+◌, ◌*◌, ◌^◌, ◌<◌, ◌≤◌, List, [], ◌∷◌, ◌++◌, get_or, refl, ap, ◌∙◌, add-one, arith, lit<, lit≤}
 use lib.Bits.{bit_xor}
 use Rattle.words.proofs.RowLaws.{word_at_word}
 use Rattle.lists.specs.Tabulation.{tab}
@@ -132,16 +132,6 @@ bytes_words {b} h =
 pub words_four : (b : List ℕ) → Bytes b → Four (words4 b)
 unfolding words4
 words_four b h = four (word_at_word b 0 h) (word_at_word b 4 h) (word_at_word b 8 h) (word_at_word b 12 h)
-
--- the words of a list are those of its first 16 bytes
-pub words_take : (l : List ℕ) → words4 (take 16 l) ≡ words4 l
-unfolding words4 word_at
-words_take l = λ i. word_at_is 0 (lit≤ tt) i ∷ word_at_is 4 (lit≤ tt) i ∷ word_at_is 8 (lit≤ tt) i ∷ word_at_is 12 (lit≤ tt) i ∷ []
-  where
-    word_at_is : (k : ℕ) → k + 4 ≤ 16 → word_at (take 16 l) k ≡ word_at l k
-    word_at_is k h =
-        let e : (j : ℕ) → j < 4 → get_or (take 16 l) (k + j) 0 ≡ get_or l (k + j) 0 = λ j b. get_or-take 16 l (k + j) 0 (omega arith) in
-        λ i. word (get_or-take 16 l k 0 (omega arith) i) (e 1 (lit< tt) i) (e 2 (lit< tt) i) (e 3 (lit< tt) i)
 
 -- xor of blocks, in words
 pub words_xor : (a b : List ℕ) → Bytes a → Bytes b → words4 (xor_block a b) ≡ xor_words (words4 a) (words4 b)

@@ -1,18 +1,17 @@
 -- Laws of the two schedules: which numbers are refused, what a number and a key tell together, and that the round keys of both are
 -- words.
-use Rattle.std.proofs.Common.{◌≡◌, ℕ, Bool, true, false, cond, not, ◌||◌, eqb, List, length, Option, Some, None, Result, Ok, Err, refl, ap, ◌∙◌, arith, eq-eqb, ne_eqb}
+use Rattle.std.proofs.Common.{◌≡◌, ℕ, Bool, true, false, cond, not, ◌||◌, eqb, List, length, Option, Some, None, Result, Ok, Err, refl, sym, ap, ◌∙◌, arith, eq-eqb, ne_eqb}
 use Rattle.std.specs.Option.{ok_or}
 use Rattle.lists.specs.Blocks.{Bytes}
 use Rattle.words.specs.Rows.{RowsOfWords}
 use Rattle.lea_schedule.proofs.ScheduleLaws.{words_16, words_24, words_32}
 use Rattle.wf_lea.proofs.RowLaws.{rows_words}
 use Rattle.cipher.specs.KeySize.{rounds, size_of_key}
-use Rattle.cipher.specs.Schedules.{schedule_found, numbered, Named, kind_of, key_kind, schedule, key_rows}
+use Rattle.cipher.specs.Schedules.{schedule_found, numbered, Named, key_of, key_read, schedule, key_rows}
 use Rattle.cipher.specs.Answers.{schedule_of}
 use Rattle.cipher.proofs.PassedLaws.{or_none, or_some}
 use Rattle.cipher.specs.declared.size.KeySize.{KeySize}
 use Rattle.cipher.specs.declared.size.KeySize.TheVariants.{Bytes16, Bytes24, Bytes32}
-use Rattle.cipher.specs.declared.schedules.KeyKind.{KeyKind}
 use Rattle.cipher.specs.declared.refusal.Refusal.{Refusal}
 use Rattle.cipher.specs.declared.refusal.Refusal.TheVariants.{KeyLength, ScheduleNumber}
 use Rattle.cipher.specs.declared.schedules.Schedule.{Schedule}
@@ -65,29 +64,43 @@ number_known n = go (eqb n 0) (eqb n 1)
 -- ---- what is told of a number and a key together
 
 module _ (s : ℕ) (key : List ℕ) where
-  pub kind_unnumbered : (q : Refusal) → Err q ≡ numbered s → Err q ≡ key_kind s key
-  unfolding numbered kind_of
+  pub kind_unnumbered : (q : Refusal) → Err q ≡ numbered s → Err q ≡ key_read s key
+  unfolding numbered key_of
   kind_unnumbered q e = let n = or_none (schedule_found s) ScheduleNumber q e in rw (n.0, n.1)
 
   module _ (k : Schedule) (e : Ok k ≡ numbered s) where
-    pub kind_unsized : (q : Refusal) → Err q ≡ ok_or (size_of_key (length key)) KeyLength → Err q ≡ key_kind s key
-    unfolding numbered kind_of
+    pub kind_unsized : (q : Refusal) → Err q ≡ ok_or (size_of_key (length key)) KeyLength → Err q ≡ key_read s key
+    unfolding numbered key_of
     kind_unsized q f = let n = or_none (size_of_key (length key)) KeyLength q f in rw (or_some (schedule_found s) ScheduleNumber k e, n.0, n.1)
 
-    pub kind_whole : (z : KeySize) → Ok z ≡ ok_or (size_of_key (length key)) KeyLength → Ok (record { schedule = k; size = z }) ≡ key_kind s key
-    unfolding numbered kind_of
+    pub kind_whole : (z : KeySize) → Ok z ≡ ok_or (size_of_key (length key)) KeyLength → Ok (k, z, key) ≡ key_read s key
+    unfolding numbered key_of
     kind_whole z f = rw (or_some (schedule_found s) ScheduleNumber k e, or_some (size_of_key (length key)) KeyLength z f)
 
--- a kind that was found is that of number and key, and where there is none either the number names no schedule or the key has no size
-pub kind_named : (s : ℕ) (key : List ℕ) (kind : KeyKind) → Ok kind ≡ key_kind s key → Named s key kind.schedule kind.size
-unfolding kind_of
-kind_named s key kind = go (schedule_found s) refl (size_of_key (length key)) refl
-  where
-    go : (a : Option Schedule) → schedule_found s ≡ a → (b : Option KeySize) → size_of_key (length key) ≡ b → Ok kind ≡ kind_of a b
-        → Named s key kind.schedule kind.size
-    go None p b q e = let w : ◌≡◌ {A = ℕ} 0 1 = cc in absurd (omega arith)
-    go (Some k) p None q e = let w : ◌≡◌ {A = ℕ} 0 1 = cc in absurd (omega arith)
-    go (Some k) p (Some z) q e = (cc, cc)
+-- what was read of number and key is theirs
+module _ (s : ℕ) (key : List ℕ) {b : List ℕ} {k : Schedule} {z : KeySize} where
+  of_both : Ok (k, z, b) ≡ key_read s key → Named s key k z × (b ≡ key)
+  unfolding key_of
+  of_both = go (schedule_found s) refl (size_of_key (length key)) refl
+    where
+      same : {j : Schedule} {y : KeySize} → ◌≡◌ {A = Result (Schedule × KeySize × List ℕ) Refusal} (Ok (k, z, b)) (Ok (j, y, key))
+          → (k ≡ j) × (z ≡ y) × (b ≡ key)
+      same {j} {y} e =
+          let w : ◌≡◌ {A = Schedule × KeySize × List ℕ} (k, z, b) (j, y, key) = cc in
+          (ap (λ p. p.0) w, ap (λ p. p.1) w, ap (λ p. p.2) w)
+
+      go : (o : Option Schedule) → schedule_found s ≡ o → (i : Option KeySize) → size_of_key (length key) ≡ i → Ok (k, z, b) ≡ key_of o i key
+          → Named s key k z × (b ≡ key)
+      go None p i q e = let w : ◌≡◌ {A = ℕ} 0 1 = cc in absurd (omega arith)
+      go (Some j) p None q e = let w : ◌≡◌ {A = ℕ} 0 1 = cc in absurd (omega arith)
+      go (Some j) p (Some y) q e = let w = same e in ((p ∙ ap (λ (x : Schedule). Some x) (sym w.0), q ∙ ap (λ (x : KeySize). Some x) (sym w.1)), w.2)
+
+  pub key_named : Ok (k, z, b) ≡ key_read s key → Named s key k z
+  key_named e = (of_both e).0
+
+  -- and so are the rows
+  pub rows_named : {rows : List (List ℕ)} → Ok (k, z, b) ≡ key_read s key → rows ≡ key_rows k z b → rows ≡ key_rows k z key
+  rows_named e r = r ∙ ap (key_rows k z) (of_both e).1
 
 -- every round key is a word
 pub key_words : (k : Schedule) (z : KeySize) (key : List ℕ) → Bytes key → RowsOfWords (key_rows k z key)

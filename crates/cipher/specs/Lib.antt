@@ -2,6 +2,7 @@ pub mod Lengths
 pub mod KeySize
 pub mod Refusal
 pub mod Schedules
+pub mod Keys
 pub mod Lea
 pub mod Cmac
 pub mod Cbc

@@ -9,7 +9,6 @@ use Rattle.cipher.specs.declared.size.KeySize.{KeySize}
 use Rattle.cipher.specs.declared.size.KeySize.TheVariants.{Bytes16, Bytes24, Bytes32}
 use Rattle.cipher.specs.declared.schedules.Schedule.{Schedule}
 use Rattle.cipher.specs.declared.schedules.Schedule.TheVariants.{Lea, WfLea}
-use Rattle.cipher.specs.declared.schedules.KeyKind.{KeyKind}
 use Rattle.cipher.specs.declared.refusal.Refusal.{Refusal}
 use Rattle.cipher.specs.declared.refusal.Refusal.TheVariants.{KeyLength, ScheduleNumber}
 
@@ -24,14 +23,14 @@ numbered n = ok_or (schedule_found n) ScheduleNumber
 abbrev pub Named : ℕ → List ℕ → Schedule → KeySize → Type 0
 Named s key k z = (schedule_found s ≡ Some k) × (size_of_key (length key) ≡ Some z)
 
--- the schedule and the size that they name, or why there are none: the number is refused before the key's length
-unfoldable pub kind_of : Option Schedule → Option KeySize → Result KeyKind Refusal
-kind_of None z = Err ScheduleNumber
-kind_of (Some k) None = Err KeyLength
-kind_of (Some k) (Some z) = Ok (record { schedule = k; size = z })
+-- what they name, with the key, or why there is nothing: the number is refused before the key's length
+unfoldable pub key_of : Option Schedule → Option KeySize → List ℕ → Result (Schedule × KeySize × List ℕ) Refusal
+key_of None z key = Err ScheduleNumber
+key_of (Some k) None key = Err KeyLength
+key_of (Some k) (Some z) key = Ok (k, z, key)
 
-abbrev pub key_kind : ℕ → List ℕ → Result KeyKind Refusal
-key_kind s key = kind_of (schedule_found s) (size_of_key (length key))
+abbrev pub key_read : ℕ → List ℕ → Result (Schedule × KeySize × List ℕ) Refusal
+key_read s key = key_of (schedule_found s) (size_of_key (length key)) key
 
 -- LEA's rows of a key of a size
 unfoldable pub schedule : KeySize → List ℕ → List (List ℕ)

@@ -31,33 +31,9 @@ fn are_permutations(s: &[u8], n: usize) -> bool
     (0..n).all(|k| is_permutation(s, k))
 }
 
-// Whether the middle codings of every round of a chain of r rounds are permutations. The rounds and the
-// chain's length are asked of four functions, each for itself: words_kept, which CLAIMS names, is lent
-// both.
-fn middles_permute(chain: &[u8], r: usize) -> bool
-    requires { (r ≤ 32) × (1024 + 920 * r ≤ length chain.now) }
-    ensures { result ≡ every r (λ l. C.are_permutations 24 (C.round_bytes r chain.now l)) }
-{
-    let sets = lengths::SET * (r + 2);
-    (0..r).all(|l| are_permutations(
-        &chain[sets + lengths::ROUND_CODINGS * l..],
-        lengths::MIDDLES,
-    ))
-}
-
-// Whether all codings of a chain of r rounds are permutations.
-fn codings_permute(chain: &[u8], r: usize) -> bool
-    requires { (r ≤ 32) × (1024 + 920 * r ≤ length chain.now) }
-    ensures { result ≡ C.coding_rule_holds r chain.now }
-{
-    if !are_permutations(chain, lengths::SET_CODINGS * (r + 2)) {
-        return false;
-    }
-    middles_permute(chain, r)
-}
-
 // Whether word `to` of the set in after is coded as word `from` of the set in before. All bytes are
-// looked at, since that is quicker than to stop at the first that differs.
+// looked at, since that is quicker than to stop at the first that differs. The words of a rule are
+// numbers below 4 here, in words_kept and in check_rule: CLAIMS names the three.
 pub fn word_kept(before: &[u8], from: usize, after: &[u8], to: usize) -> bool
     requires { (from < 4) × (to < 4) × (set_length ≤ length before.now) × (set_length ≤ length after.now) }
     ensures { result ≡ C.word_kept from to before.now after.now }
@@ -91,13 +67,47 @@ fn masks_hold(s: &[u8]) -> bool
     (0..lengths::MIDDLES).all(|k| s[lengths::MASKS + k] < 2)
 }
 
-// Whether the masks of every round of a chain of r rounds hold.
-fn all_masks_hold(chain: &[u8], r: usize) -> bool
-    requires { (r ≤ 32) × (1024 + 920 * r ≤ length chain.now) }
-    ensures { result ≡ C.mask_rule_holds r chain.now }
-{
-    let sets = lengths::SET * (r + 2);
-    (0..r).all(|l| masks_hold(&chain[sets + lengths::ROUND_CODINGS * l..]))
+// A chain of r rounds. Whether its words are kept is told by words_kept, which is lent chain and rounds,
+// since CLAIMS names it.
+#[derive(Clone, Copy)]
+struct Rounds<'a> {
+    chain: &'a [u8],
+    r: usize,
+    ghost few: { r ≤ 32 },
+    ghost whole: { 1024 + 920 * r ≤ length chain.now },
+}
+
+impl<'a> Rounds<'a> {
+    // Whether the middle codings of every round are permutations.
+    fn middles_permute(&self) -> bool
+        ensures { let c = self.now in result ≡ every c.r (λ l. C.are_permutations 24 (C.round_bytes c.r c.chain.now l)) }
+    {
+        let sets = lengths::SET * (self.r + 2);
+        let chain = self.chain;
+        (0..self.r).all(|l| are_permutations(
+            &chain[sets + lengths::ROUND_CODINGS * l..],
+            lengths::MIDDLES,
+        ))
+    }
+
+    // Whether all codings are permutations.
+    fn codings_permute(&self) -> bool
+        ensures { result ≡ C.coding_rule_holds self.now.r self.now.chain.now }
+    {
+        if !are_permutations(self.chain, lengths::SET_CODINGS * (self.r + 2)) {
+            return false;
+        }
+        self.middles_permute()
+    }
+
+    // Whether the masks of every round hold.
+    fn all_masks_hold(&self) -> bool
+        ensures { result ≡ C.mask_rule_holds self.now.r self.now.chain.now }
+    {
+        let sets = lengths::SET * (self.r + 2);
+        let chain = self.chain;
+        (0..self.r).all(|l| masks_hold(&chain[sets + lengths::ROUND_CODINGS * l..]))
+    }
 }
 
 // A lone set: its length (2), its codings (3).
@@ -123,13 +133,14 @@ pub fn check_rule(size: KeySize, chain: &[u8], from: usize, to: usize) -> Result
         return Err(Refusal::ChainLength);
     }
     let r = size.rounds();
-    if !codings_permute(chain, r) {
+    let rounds = Rounds { chain, r };
+    if !rounds.codings_permute() {
         return Err(Refusal::NoPermutation);
     }
     if !words_kept(chain, r, from, to) {
         return Err(Refusal::WordRule);
     }
-    if !all_masks_hold(chain, r) {
+    if !rounds.all_masks_hold() {
         return Err(Refusal::MaskByte);
     }
     Ok(())

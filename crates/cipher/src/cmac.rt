@@ -29,9 +29,8 @@ pub fn double(b: [u8; 16]) -> [u8; 16]
     ensures { result ≡ C.double b }
 {
     let mut d = [0u8; 16];
-    // By index: each byte takes a bit of the one after it.
-    for k in 0..15 {
-        d[k] = shifted(b[k], b[k + 1]);
+    for (k, x) in d[0..15].iter_mut().enumerate() {
+        *x = shifted(b[k], b[k + 1]);
     }
     let last = shifted(b[15], 0);
     if 128 <= b[0] {
@@ -58,11 +57,10 @@ pub fn cbc_mac(keys: &RoundKeys, text: &[u8], n: usize) -> [u32; 4]
     requires { block_length * n ≤ length text.now }
     ensures { result ≡ words4 (C.cbc_mac (first_rounds keys.now.rows (rounds keys.now.size)) zeros (cut n text.now)) }
 {
+    let (blocks, _) = text.as_chunks::<{ lengths::BLOCK }>();
     let mut x = [0u32; 4];
-    // By index: with as_chunks one law more would be asked, for one line less.
-    for k in 0..n {
-        let at = lengths::BLOCK * k;
-        let y = keys.encipher(xor(x, words(&text[at..])));
+    for block in blocks[..n].iter() {
+        let y = keys.encipher(xor(x, words(block)));
         x = y;
     }
     x

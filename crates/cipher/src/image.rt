@@ -7,9 +7,11 @@ ghost use Rattle.lists.specs.Tabulation.{tab};
 ghost use Rattle.cipher.specs.Coding.{LowSet, byte_coded};
 ghost use Rattle.cipher.specs.Images.{images_of, imaged};
 
-use crate::invert::wide;
 use crate::lengths;
 use parts::in_parts;
+
+// What each byte becomes at each place of a block: byte v at place k stands at 256k + v.
+pub type Images = [u8; lengths::IMAGES];
 
 // What the sixteen bytes whose high half is h become at place k.
 fn image_row(set: &[u8], k: usize, h: usize, out: &mut [u8])
@@ -33,13 +35,13 @@ pub fn images(set: &[u8], out: &mut [u8])
     });
 }
 
-// One block coded by such a table. A table is a slice with a length, and so is a set (block.rt), since
-// CLAIMS names the functions that are lent them: an array would ask more of their callers.
+// One block coded by such a table. Here and in images a table is a slice with a length, and so is a set
+// (block.rt), since CLAIMS names these functions: an array would ask more of their callers.
 pub fn look_up(images: &[u8], block: &[u8], out: &mut [u8])
     requires { (length images.now ≡ images_length) × (length block.now ≡ block_length) × (length out.old ≡ block_length) }
     ensures { out.new ≡ imaged images.now block.now }
 {
     for (k, code) in out.iter_mut().enumerate() {
-        *code = images[lengths::BYTES * k + wide(block[k])];
+        *code = images[lengths::BYTES * k + usize::from(block[k])];
     }
 }

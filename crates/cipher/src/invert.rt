@@ -22,7 +22,7 @@ fn invert_one(codings: &[u8], k: usize, out: &mut [u8])
 {
     let at = lengths::CODING * k;
     for (v, image) in codings[at..at + lengths::CODING].iter().enumerate() {
-        out[wide(*image)] = v as u8;
+        out[usize::from(*image)] = v as u8;
     }
 }
 

@@ -5,7 +5,7 @@ ghost use Rattle.cipher.specs.Refusal.{number_of, outcome_of};
 use std::error::Error;
 use std::fmt;
 
-#[derive(Clone, Copy, Debug, PartialEq, Eq, Hash)]
+#[derive(Clone, Copy, Debug, PartialEq, Eq)]
 pub enum Refusal {
     KeyLength,
     ChainLength,

@@ -21,8 +21,8 @@ impl RoundKeys {
         ensures { result ≡ L.forward self.now.rows (S.rounds self.now.size) block }
     {
         let mut x = block;
-        // By fours, so that no words are moved about between rounds (docs/SPEED.md), and by index: four
-        // rows are four arguments.
+        // By fours, so that no words are moved about between rounds (docs/SPEED.md), and by index: as
+        // `for k in self.rows.as_chunks::<4>().0[..self.size.rounds() / 4].iter()` it would be no plainer.
         for q in 0..self.size.rounds() / 4 {
             let y = four_rounds(
                 self.rows[4 * q],

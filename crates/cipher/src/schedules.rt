@@ -15,7 +15,7 @@ pub const LEA: u8 = 0;
 
 pub const WF_LEA: u8 = 1;
 
-#[derive(Clone, Copy, Debug, PartialEq, Eq, Hash)]
+#[derive(Clone, Copy, Debug, PartialEq, Eq)]
 pub enum Schedule {
     Lea,
     WfLea,
@@ -36,33 +36,38 @@ impl TryFrom<u8> for Schedule {
     }
 }
 
-// The schedule of a key and its size.
-#[derive(Clone, Copy, Debug, PartialEq, Eq, Hash)]
-pub struct KeyKind {
+// A key of a known size, and its schedule.
+#[derive(Clone, Copy)]
+pub struct Key<'a> {
     pub schedule: Schedule,
     pub size: KeySize,
+    pub bytes: &'a [u8],
+    ghost fits: { length bytes.now ≡ key_length size },
 }
 
-impl KeyKind {
-    // The kind of a key under the schedule with a number: the number (34), then the key's length (1), may
-    // be refused.
-    pub fn of(schedule: u8, key: &[u8]) -> Result<KeyKind, Refusal>
-        ensures { result ≡ S.key_kind schedule key.now }
+impl<'a> Key<'a> {
+    ghost use Rattle.cipher.specs.Keys.{key_told};
+
+    // A key under the schedule with a number: the number (34), then the key's length (1), may be refused.
+    pub fn of(schedule: u8, bytes: &'a [u8]) -> Result<Key<'a>, Refusal>
+        ensures { key_told result ≡ S.key_read schedule bytes.now }
     {
         let schedule = Schedule::try_from(schedule)?;
-        let size = KeySize::of_key_len(key.len()).ok_or(Refusal::KeyLength)?;
-        Ok(KeyKind { schedule, size })
+        let size = KeySize::of_key_len(bytes.len()).ok_or(Refusal::KeyLength)?;
+        Ok(Key {
+            schedule,
+            size,
+            bytes,
+        })
     }
 
-    // The round keys of a key of this kind: whatever has a key takes its rows from here. The key is no
-    // part of the kind, so its length is asked.
-    pub fn round_keys(self, key: &[u8]) -> RoundKeys
-        requires { length key.now ≡ key_length self.size }
-        ensures rows { result.rows ≡ S.key_rows self.schedule self.size key.now }
-        ensures size { result.size ≡ self.size }
+    // The round keys of a key: whatever has a key takes its rows from here.
+    pub fn round_keys(&self) -> RoundKeys
+        ensures rows { result.rows ≡ S.key_rows self.now.schedule self.now.size self.now.bytes.now }
+        ensures size { result.size ≡ self.now.size }
     {
         RoundKeys {
-            rows: key_rows(self.schedule, self.size, key),
+            rows: key_rows(self.schedule, self.size, self.bytes),
             size: self.size,
         }
     }

@@ -6,7 +6,7 @@ ghost use Rattle.cipher.specs.declared.size.KeySize as D;
 
 use crate::lengths;
 
-#[derive(Clone, Copy, Debug, PartialEq, Eq, Hash)]
+#[derive(Clone, Copy, Debug, PartialEq, Eq)]
 pub enum KeySize {
     Bytes16,
     Bytes24,

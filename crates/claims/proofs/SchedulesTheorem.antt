@@ -10,7 +10,7 @@ use Rattle.lists.specs.Refusals.{first}
 use Rattle.words.specs.Rows.{blank}
 use Rattle.wf_lea.proofs.RowLaws.{row_at}
 use Rattle.cipher.specs.KeySize.{rounds}
-use Rattle.cipher.specs.Schedules.{schedule_found, Named, kind_of, key_kind, key_rows}
+use Rattle.cipher.specs.Schedules.{schedule_found, Named, key_of, key_read, key_rows}
 use Rattle.cipher.specs.Answers.{row_answer}
 use Rattle.cipher.specs.declared.size.KeySize.{KeySize}
 use Rattle.cipher.specs.declared.refusal.Refusal.TheVariants.{ScheduleNumber}
@@ -28,8 +28,8 @@ module _ (s : ℕ) (h : 1 < s) where
   none : schedule_found s ≡ None
   none = unnumbered s (λ e. omega arith) (λ e. omega arith)
 
-  unkind : (key : List ℕ) → Err ScheduleNumber ≡ key_kind s key
-  unfolding kind_of
+  unkind : (key : List ℕ) → Err ScheduleNumber ≡ key_read s key
+  unfolding key_of
   unkind key = rw none
 
   no_row : (key : List ℕ) (l : ℕ) → row_answer s key l ≡ (34, blank)

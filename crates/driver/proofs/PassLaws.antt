@@ -14,7 +14,7 @@ use Rattle.cipher.specs.Book.{group_at, round_at}
 use Rattle.cipher.specs.declared.size.KeySize.{KeySize}
 use Rattle.cipher.proofs.CodingLaws.{block_halves}
 use Rattle.cipher.proofs.FoldLaw.{fold_lt}
-use Rattle.table_reader.proofs.ChunkLaws.{chunk_is}
+use Rattle.lists.proofs.FirstChunks.{chunk_is}
 use Rattle.table_reader.proofs.FrontLaws.{fold_front}
 use Rattle.table_reader.proofs.RoundLaws.{block_table_rounds}
 use Rattle.driver.specs.Driver.{body_length, rounds_of, pass}

@@ -1,5 +1,6 @@
 pub mod TabulationLaws
 pub mod ChunkLaws
+pub mod FirstChunks
 pub mod PartLaws
 pub mod TwoParts
 pub mod OverlayLaws

@@ -1,20 +1,18 @@
 // Texts coded byte by byte, each byte looked up in a table of what it becomes at its place in a block.
 ghost use Rattle.std.specs.Prelude.{◌≡◌, ◌++◌, ◌+◌, ◌*◌, ◌≤◌, length, take, drop};
 ghost use Rattle.lists.specs.Blocks.{block_length};
-ghost use Rattle.cipher.specs.Lengths.{images_length, set_length};
+ghost use Rattle.cipher.specs.Lengths.{set_length};
 ghost use Rattle.cipher.specs.Coding.{LowSet, byte_coded};
 ghost use Rattle.cipher.specs.Images.{image_at};
 ghost use Rattle.pad.specs.CodedParts.{coded_part};
 
-use cipher::image::{images, look_up};
-use cipher::invert::wide;
+use cipher::image::{Images, images, look_up};
 use cipher::lengths;
 use parts::in_parts;
 
-// The first n blocks of a text coded into the front of out. The table is a slice, as look_up takes it
-// (cipher's image.rt).
-fn code_blocks(images: &[u8], text: &[u8], n: usize, out: &mut [u8])
-    requires { (length images.now ≡ images_length) × (n * block_length ≤ length text.now) × (length text.now ≤ length out.old) }
+// The first n blocks of a text coded into the front of out.
+fn code_blocks(images: &Images, text: &[u8], n: usize, out: &mut [u8])
+    requires { (n * block_length ≤ length text.now) × (length text.now ≤ length out.old) }
     ensures { out.new ≡ coded_part (image_at images.now) 0 (take (n * block_length) text.now) ++ drop (n * block_length) out.old }
 {
     in_parts(
@@ -29,13 +27,13 @@ fn code_blocks(images: &[u8], text: &[u8], n: usize, out: &mut [u8])
 }
 
 // A part of a text, which begins at byte `from` of it, coded into the same places of out.
-fn code_part(images: &[u8], from: usize, part: &[u8], out: &mut [u8])
-    requires { (length images.now ≡ images_length) × (from + length part.now ≤ length out.old) }
+fn code_part(images: &Images, from: usize, part: &[u8], out: &mut [u8])
+    requires { from + length part.now ≤ length out.old }
     ensures { out.new ≡ take from out.old ++ (coded_part (image_at images.now) from part.now ++ drop (from + length part.now) out.old) }
 {
     let codes = &mut out[from..from + part.len()];
     for (i, code) in codes.iter_mut().enumerate() {
-        *code = images[lengths::BYTES * ((from + i) % lengths::BLOCK) + wide(part[i])];
+        *code = images[lengths::BYTES * ((from + i) % lengths::BLOCK) + usize::from(part[i])];
     }
 }
 

@@ -19,7 +19,7 @@ use Rattle.reading.specs.Tables.{read_round, read_rounds}
 use Rattle.reading.specs.Book.{reading_round_at, reading_group_at}
 use Rattle.reading.specs.Shown.{read_block, read_text, read_at}
 use Rattle.reading.proofs.ReadLoop.{read_text_lem}
-use Rattle.table_reader.proofs.ChunkLaws.{chunk_first, chunk_lent}
+use Rattle.lists.proofs.FirstChunks.{chunk_first, chunk_lent}
 use Rattle.table_reader.proofs.FrontLaws.{fold_front}
 use Rattle.reader.proofs.RoundLaws.{block_round}
 use Rattle.reader.proofs.FrontLaws.{read_front}

@@ -17,7 +17,7 @@ use cipher::chain::check_rule;
 use cipher::lengths;
 use cipher::refusal::Refusal;
 use cipher::rows::RoundKeys;
-use cipher::schedules::KeyKind;
+use cipher::schedules::Key;
 use reading::lengths::reading_len;
 use table_maker::folds::fold_tables;
 use table_maker::inverted::InvertedSet;
@@ -57,12 +57,12 @@ fn fill(keys: &RoundKeys, chain: &[u8], out: &mut [u8])
 pub fn build_reading(schedule: u8, key: &[u8], chain: &[u8], out: &mut [u8]) -> Result<(), Refusal>
     ensures { (outcome_of result, out.new) ≡ build_reading_answer schedule key.now chain.now out.old }
 {
-    let kind = KeyKind::of(schedule, key)?;
-    check_rule(kind.size, chain, 3, 0)?;
-    let end = reading_len(kind.size);
+    let key = Key::of(schedule, key)?;
+    check_rule(key.size, chain, 3, 0)?;
+    let end = reading_len(key.size);
     if out.len() < end {
         return Err(Refusal::ShortBuffer);
     }
-    fill(&kind.round_keys(key), chain, &mut out[0..end]);
+    fill(&key.round_keys(), chain, &mut out[0..end]);
     Ok(())
 }

@@ -6,4 +6,3 @@ pub mod FoldLaws
 pub mod Typed
 pub mod RoundLaws
 pub mod FrontLaws
-pub mod ChunkLaws

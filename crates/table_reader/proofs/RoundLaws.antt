@@ -12,7 +12,7 @@ use Rattle.cipher.specs.Tables.{table_round, table_rounds}
 use Rattle.cipher.specs.Book.{round_at}
 use Rattle.cipher.proofs.CodingLaws.{block_halves}
 use Rattle.cipher.proofs.RoundLaw.{after_lt}
-use Rattle.table_reader.proofs.ChunkLaws.{chunk_lent}
+use Rattle.lists.proofs.FirstChunks.{chunk_lent}
 use Rattle.table_reader.proofs.FrontLaws.{round_front}
 
 -- one round more, by the tables as they are lent: those at l of the parts that the rest of the book from 24592 on is made of

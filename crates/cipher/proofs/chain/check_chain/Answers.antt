@@ -2,7 +2,7 @@
 use Rattle.std.proofs.Common.{sym, ap, ◌∙◌}
 use Rattle.cipher.specs.Refusal.{outcome_of, number_of}
 use Rattle.cipher.specs.Chain.{chain_tests}
-use Rattle.cipher.proofs.PassedLaws.{passed, or_none, or_some}
+use Rattle.cipher.proofs.PassedLaws.{passed, or_none}
 use Rattle.cipher.proofs.AnswerLaws.{length_refused, length_taken}
 use Rattle.cipher.proofs.chain.check_chain.Goals as goal
 

@@ -18,10 +18,11 @@ told test z ch r t b e h k = ap (λ (n : ℕ). test n ch) (sym e) ∙ sym h ∙ 
 pub returns-then-chain-chain_len : goal.returns-then-chain-chain_len
 returns-then-chain-chain_len c = sym (chain_length_wrong _ _ _ _ (λ e. c.if-chain-chain_len.true (e ∙ sym c.chain_len.ensures)))
 
-pub codings_permute-requires : goal.codings_permute-requires
-codings_permute-requires c =
+pub invariant_of-rounds : goal.invariant_of-rounds
+invariant_of-rounds c =
     let a = c.args in
-    long a.size a.chain.now _ c.rounds-r.ensures (c.if-chain-chain_len.false ∙ c.chain_len.ensures)
+    let room = long a.size a.chain.now _ c.rounds-r.ensures (c.if-chain-chain_len.false ∙ c.chain_len.ensures) in
+    record { few = room.0; whole = room.1 }
 
 pub returns-then-not-codings_permute : goal.returns-then-not-codings_permute
 returns-then-not-codings_permute c =
@@ -41,11 +42,6 @@ returns-then-not-words_kept c =
     sym (chain_words_wrong a.from a.to a.size a.chain.now (c.if-chain-chain_len.false ∙ c.chain_len.ensures)
     (told coding_rule_holds a.size a.chain.now _ _ true c.rounds-r.ensures c.codings_permute.ensures (c.if-not-codings_permute.false))
     (told (words_kept a.from a.to) a.size a.chain.now _ _ false c.rounds-r.ensures c.words_kept.ensures (c.if-not-words_kept.true)))
-
-pub all_masks_hold-requires : goal.all_masks_hold-requires
-all_masks_hold-requires c =
-    let a = c.args in
-    long a.size a.chain.now _ c.rounds-r.ensures (c.if-chain-chain_len.false ∙ c.chain_len.ensures)
 
 pub returns-then-not-all_masks_hold : goal.returns-then-not-all_masks_hold
 returns-then-not-all_masks_hold c =

@@ -10,14 +10,14 @@ unfolding tab
 loop-k-init c = (omega arith, refl, refl)
 
 pub bounds-images-k : goal.bounds-images-k
-bounds-images-k c = omega (arith, c.wide.ensures.1)
+bounds-images-k c = omega (arith, c.from.ensures)
 
 pub loop-k-preserved : goal.loop-k-preserved
 loop-k-preserved c =
     let a = c.args in (
       omega arith,
       simp length-set c.loop-k.invariant.1,
-      tab_turn (λ i. image_at a.images.now i (get_or a.block.now i 0)) _ _ _ _ c.loop-k.invariant.2 (ap (image_at a.images.now c.loop-k.k) c.wide.ensures.0) (omega arith),
+      tab_turn (λ i. image_at a.images.now i (get_or a.block.now i 0)) _ _ _ _ c.loop-k.invariant.2 (ap (image_at a.images.now c.loop-k.k) c.from.ensures) (omega arith),
     )
 
 pub shape_of-out : goal.shape_of-out

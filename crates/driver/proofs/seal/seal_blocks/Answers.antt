@@ -2,7 +2,7 @@
 use Rattle.std.proofs.Common.{◌≡◌, ℕ, ◌*◌, ◌/◌, ◌++◌, length, drop, refl, ap, ◌∙◌, arith}
 use mathlib.Core.List.{flatten}
 use Rattle.lists.specs.Blocks.{cut, blocks}
-use Rattle.table_reader.proofs.ChunkLaws.{chunk_is}
+use Rattle.lists.proofs.FirstChunks.{chunk_is}
 use Rattle.driver.specs.Driver.{passed_from}
 use Rattle.driver.proofs.SealLaws.{passed_last, done, seal_end, seal_turn}
 use Rattle.driver.proofs.seal.seal_blocks.Goals as goal

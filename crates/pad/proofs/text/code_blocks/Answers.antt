@@ -13,5 +13,5 @@ returns c =
     (c.in_parts.ensures (block_images t text) (λ p part left l e w.
     let looked : left.now ≡ imaged t (take (p * 16 + 16 - p * 16) (drop (p * 16) text)) = search rules in
     lent_block t text _ p (p * 16) refl looked)
-    ∙ blocks_part t text c.args.n c.requires.1)
+    ∙ blocks_part t text c.args.n c.requires.0)
     (Post-is 0 (c.args.n * 16) c.args.out.now (omega arith))

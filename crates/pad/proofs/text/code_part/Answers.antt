@@ -12,7 +12,7 @@ unfolding tab
 loop-i-init c =
     let a = c.args in
     let part : length (take (a.from + length a.part.now - a.from) (drop a.from a.out.now)) ≡ length a.part.now =
-    length_part a.out.now a.from (length a.part.now) c.requires.1 ∙ (omega arith) in
+    length_part a.out.now a.from (length a.part.now) c.requires ∙ (omega arith) in
     (part, refl)
 
 pub loop-i-preserved : goal.loop-i-preserved
@@ -20,7 +20,7 @@ loop-i-preserved c =
     let a = c.args in (
       simp length-set c.loop-i.invariant.0,
       tab_turn (λ k. image_at a.images.now ((a.from + k) % 16) (get_or a.part.now k 0)) _ _ _ _ c.loop-i.invariant.1
-          (ap (image_at a.images.now ((a.from + c.loop-i.i) % 16)) c.wide.ensures.0) (omega arith),
+          (ap (image_at a.images.now ((a.from + c.loop-i.i) % 16)) c.from.ensures) (omega arith),
     )
 
 pub returns : goal.returns

@@ -5,7 +5,7 @@ use Rattle.lists.specs.Tabulation.{chunks}
 use Rattle.lists.specs.Blocks.{block_before}
 use Rattle.lists.proofs.BlockBuffers.{made_next, made_more}
 use Rattle.cipher.specs.Tables.{table_fold}
-use Rattle.table_reader.proofs.ChunkLaws.{chunk_is, chunk_count}
+use Rattle.lists.proofs.FirstChunks.{chunk_is, chunk_count}
 use Rattle.reader.proofs.BlockLoops.{fold_of, length_fold, all_made, before_more}
 use Rattle.reader.proofs.blocks.folds.Goals as goal
 

@@ -1,6 +1,6 @@
 -- `blocks::rounds` meets its contract. The invariant: the blocks went through as many rounds as there were tables.
 use Rattle.std.proofs.Common.{arith}
-use Rattle.table_reader.proofs.ChunkLaws.{lent_count}
+use Rattle.lists.proofs.FirstChunks.{lent_count}
 use Rattle.reader.proofs.BlockLoops.{rounded_none, rounded_more, rounded_all}
 use Rattle.reader.proofs.blocks.rounds.Goals as goal
 

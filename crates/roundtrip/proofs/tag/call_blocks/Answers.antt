@@ -1,6 +1,6 @@
 -- `tag::call_blocks` meets its contract.
 use Rattle.std.proofs.Common.{◌≡◌, ℕ, refl, ap, ◌∙◌, arith}
-use Rattle.table_reader.proofs.ChunkLaws.{chunk_lent, lent_count}
+use Rattle.lists.proofs.FirstChunks.{chunk_lent, lent_count}
 use Rattle.roundtrip.specs.Steps.{after_blocks}
 use Rattle.roundtrip.proofs.TagRoundtrip.{after_turn}
 use Rattle.roundtrip.proofs.tag.call_blocks.Goals as goal

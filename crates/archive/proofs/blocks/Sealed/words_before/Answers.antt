@@ -8,9 +8,9 @@ use Rattle.archive.proofs.blocks.Sealed.words_before.Goals as goal
 pub returns-then-k-eq0 : goal.returns-then-k-eq0
 returns-then-k-eq0 c =
     let s = c.args.self.now in
-    c.decoded.ensures ∙ ap (λ b. words4 (imaged s.table.now b)) (before_first s.iv.now s.text.now c.args.k c.if-k-eq0.true)
+    c.decoded.ensures ∙ ap (λ b. words4 (imaged s.table.now b)) (before_first s.iv s.text.now c.args.k c.if-k-eq0.true)
 
 pub returns : goal.returns
 returns c =
     let s = c.args.self.now in
-    c.words_of.ensures ∙ ap (λ b. words4 (imaged s.table.now b)) (before_next s.iv.now s.text.now c.args.k c.if-k-eq0.false)
+    c.words_of.ensures ∙ ap (λ b. words4 (imaged s.table.now b)) (before_next s.iv s.text.now c.args.k c.if-k-eq0.false)

@@ -1,5 +1,5 @@
 -- `rows::RoundKeys::first_rounds` meets its contract. The invariant: as many rounds are done as rows were taken.
-use Rattle.std.proofs.Common.{◌≡◌, ℕ, ◌<◌, ◌≤◌, List, [], length, get_or, take, sym, refl, ap, ◌∙◌, arith}
+use Rattle.std.proofs.Common.{◌≡◌, ℕ, ◌<◌, [], length, take, sym, refl, ap, ◌∙◌, arith}
 use lib.Seq.{length-take-le, get_or-take}
 use Rattle.cipher.specs.Lea as L
 use Rattle.cipher.proofs.LeaLaws.{forward_more}

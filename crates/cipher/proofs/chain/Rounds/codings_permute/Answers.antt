@@ -1,7 +1,7 @@
--- `chain::codings_permute` meets its contract.
+-- `chain::Rounds::codings_permute` meets its contract.
 use Rattle.std.proofs.Common.{sym, ◌∙◌}
 use Rattle.cipher.specs.Chain.{coding_rule_holds}
-use Rattle.cipher.proofs.chain.codings_permute.Goals as goal
+use Rattle.cipher.proofs.chain.Rounds.codings_permute.Goals as goal
 
 pub returns-then-not-are_permutations : goal.returns-then-not-are_permutations
 unfolding coding_rule_holds

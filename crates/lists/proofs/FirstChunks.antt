@@ -23,6 +23,7 @@ count : (s k : ℕ) (ys : List ℕ) → length (first_chunks s k ys) ≡ k
 count s zero ys = refl
 count s (suc k) ys = ap suc (count s k (drop s ys))
 
+-- how many they are
 pub chunk_count : (s k : ℕ) (ys : List ℕ) (cs : List (List ℕ)) → cs ≡ first_chunks s k ys → length cs ≡ k
 chunk_count s k ys cs e = ap length e ∙ count s k ys
 
