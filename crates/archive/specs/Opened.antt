@@ -6,4 +6,4 @@ use Rattle.archive.specs.Blocks.{opened_block}
 use Rattle.archive.specs.declared.blocks.Sealed.{Sealed}
 
 abbrev pub opened_of : Sealed → ℕ → List ℕ
-opened_of s = opened_block s.keys.now.rows (rounds s.keys.now.size) (imaged s.table.now) s.iv s.text.now
+opened_of s = opened_block s.keys.rows (rounds s.keys.size) (imaged s.table.now) s.iv s.text.now

@@ -52,11 +52,11 @@ fn decipher_four(keys: &RoundKeys, blocks: [[u32; 4]; 4]) -> [[u32; 4]; 4]
 // stands in front of the first block.
 #[derive(Clone, Copy)]
 pub struct Sealed<'a> {
-    pub keys: &'a RoundKeys,
+    pub keys: RoundKeys,
     pub table: &'a Images,
     pub iv: [u8; 16],
     pub text: &'a [u8],
-    ghost keyed: { RowsOfWords keys.now.rows },
+    ghost keyed: { RowsOfWords keys.rows },
     ghost decodes: { Bytes table.now },
 }
 
@@ -111,7 +111,7 @@ impl<'a> Sealed<'a> {
             let c = self.words_of(k + 2);
             let d = self.words_of(k + 3);
             let before = [prior, a, b, c];
-            let y = decipher_four(self.keys, [a, b, c, d]);
+            let y = decipher_four(&self.keys, [a, b, c, d]);
             for m in 0..4 {
                 put_block(out, lengths::BLOCK * (k + m), bytes(xor(y[m], before[m])));
             }

@@ -47,7 +47,7 @@ pub fn check(
     if lengths::LONGEST_MESSAGE < message.len() {
         return Err(Refusal::MessageLength);
     }
-    let mac = cmac(&key.round_keys(), message);
+    let mac = cmac(key.round_keys(), message);
     if same(code_block(set, mac), tag) {
         Ok(Verdict::Valid)
     } else {

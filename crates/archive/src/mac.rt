@@ -46,8 +46,8 @@ fn last_words(part: &[u8], keys: SubkeyPair) -> [u32; 4]
 }
 
 // The CMAC of a message under round keys.
-pub fn cmac(keys: &RoundKeys, message: &[u8]) -> [u8; 16]
-    ensures { result ≡ C.cmac (first_rounds keys.now.rows (S.rounds keys.now.size)) message.now }
+pub fn cmac(keys: RoundKeys, message: &[u8]) -> [u8; 16]
+    ensures { result ≡ C.cmac (first_rounds keys.rows (S.rounds keys.size)) message.now }
 {
     let n = blocks_before(message.len());
     let at = lengths::BLOCK * n;

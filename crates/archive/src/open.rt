@@ -74,7 +74,7 @@ pub fn open(
     let mut table = [0u8; lengths::IMAGES];
     decodings(set, &mut table);
     let sealed = Sealed {
-        keys: &keys,
+        keys,
         table: &table,
         iv: block_at(iv, 0),
         text: file,

@@ -21,9 +21,9 @@ use cipher::schedules::Key;
 use table_maker::sets::ChainSet;
 
 // The body of the book of a valid chain, into a buffer of its length.
-fn fill(keys: &RoundKeys, chain: &[u8], out: &mut [u8])
-    requires { Chain keys.now.size chain.now × (length out.old ≡ rounds_start + round_length * S.rounds keys.now.size) }
-    ensures { out.new ≡ book_of (S.rounds keys.now.size) keys.now.rows chain.now }
+fn fill(keys: RoundKeys, chain: &[u8], out: &mut [u8])
+    requires { Chain keys.size chain.now × (length out.old ≡ rounds_start + round_length * S.rounds keys.size) }
+    ensures { out.new ≡ book_of (S.rounds keys.size) keys.rows chain.now }
 {
     let at = lengths::SET * (keys.size.rounds() + 1);
     let last = ChainSet {
@@ -53,7 +53,7 @@ pub fn build(schedule: u8, key: &[u8], chain: &[u8], out: &mut [u8]) -> Result<(
         return Err(Refusal::ShortBuffer);
     }
     out[0] = key.size.key_len() as u8;
-    fill(&key.round_keys(), chain, &mut out[lengths::BODY..end]);
+    fill(key.round_keys(), chain, &mut out[lengths::BODY..end]);
     Ok(())
 }
 
@@ -75,7 +75,7 @@ pub fn build_round(
     }
     let at = l % key.size.rounds();
     round_at(
-        &key.round_keys(),
+        key.round_keys(),
         chain,
         at,
         &mut out[0..lengths::ROUND_TABLES],

@@ -33,9 +33,9 @@ fn round_tables(round: Round, k: [u32; 6], out: &mut [u8])
 
 // The tables of round l of a chain. `reading_book` has this and `round_parts` with a chain rule, a row and
 // tables of its own: a trait for these three would be longer than the three lines that both have.
-pub fn round_at(keys: &RoundKeys, chain: &[u8], l: usize, out: &mut [u8])
-    requires { Chain keys.now.size chain.now × (l < S.rounds keys.now.size) × (length out.old ≡ round_length) }
-    ensures { out.new ≡ book_round (S.rounds keys.now.size) keys.now.rows chain.now l }
+pub fn round_at(keys: RoundKeys, chain: &[u8], l: usize, out: &mut [u8])
+    requires { Chain keys.size chain.now × (l < S.rounds keys.size) × (length out.old ≡ round_length) }
+    ensures { out.new ≡ book_round (S.rounds keys.size) keys.rows chain.now l }
 {
     let round = Round::of_chain(keys.size, chain, l);
     round_tables(round, keys.rows[l], out);
@@ -43,9 +43,9 @@ pub fn round_at(keys: &RoundKeys, chain: &[u8], l: usize, out: &mut [u8])
 
 // The tables of all rounds. A valid chain is asked here and in build.rt, and is no type: with its round
 // keys it would be one for this crate alone, since a reading chain is valid by another rule.
-pub fn round_parts(keys: &RoundKeys, chain: &[u8], out: &mut [u8])
-    requires { Chain keys.now.size chain.now × (length out.old ≡ S.rounds keys.now.size * round_length) }
-    ensures { out.new ≡ chunks (S.rounds keys.now.size) (book_round (S.rounds keys.now.size) keys.now.rows chain.now) }
+pub fn round_parts(keys: RoundKeys, chain: &[u8], out: &mut [u8])
+    requires { Chain keys.size chain.now × (length out.old ≡ S.rounds keys.size * round_length) }
+    ensures { out.new ≡ chunks (S.rounds keys.size) (book_round (S.rounds keys.size) keys.rows chain.now) }
 {
     in_parts(out, lengths::ROUND_TABLES, keys.size.rounds(), |l, part| {
         round_at(keys, chain, l, part)

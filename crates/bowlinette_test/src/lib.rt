@@ -26,7 +26,7 @@ fn cbc_mac(schedule: u8, key: &[u8], text: &[u8]) -> Result<[u8; 16], Refusal>
 {
     let key = Key::of(schedule, key)?;
     let keys = key.round_keys();
-    let x = cipher::cmac::cbc_mac(&keys, text, text.len() / lengths::BLOCK);
+    let x = cipher::cmac::cbc_mac(keys, text, text.len() / lengths::BLOCK);
     Ok(bytes(x))
 }
 

@@ -42,9 +42,9 @@ pub fn double(b: [u8; 16]) -> [u8; 16]
 }
 
 // K1 and K2 under round keys.
-pub fn subkeys(keys: &RoundKeys) -> SubkeyPair
-    ensures k1 { result.k1 ≡ C.subkey1 (first_rounds keys.now.rows (rounds keys.now.size)) }
-    ensures k2 { result.k2 ≡ C.subkey2 (first_rounds keys.now.rows (rounds keys.now.size)) }
+pub fn subkeys(keys: RoundKeys) -> SubkeyPair
+    ensures k1 { result.k1 ≡ C.subkey1 (first_rounds keys.rows (rounds keys.size)) }
+    ensures k2 { result.k2 ≡ C.subkey2 (first_rounds keys.rows (rounds keys.size)) }
 {
     let l = bytes(keys.encipher([0u32; 4]));
     let k1 = double(l);
@@ -53,9 +53,9 @@ pub fn subkeys(keys: &RoundKeys) -> SubkeyPair
 }
 
 // The CBC-MAC, in words, of the first n blocks of a text, from the zero block.
-pub fn cbc_mac(keys: &RoundKeys, text: &[u8], n: usize) -> [u32; 4]
+pub fn cbc_mac(keys: RoundKeys, text: &[u8], n: usize) -> [u32; 4]
     requires { block_length * n ≤ length text.now }
-    ensures { result ≡ words4 (C.cbc_mac (first_rounds keys.now.rows (rounds keys.now.size)) zeros (cut n text.now)) }
+    ensures { result ≡ words4 (C.cbc_mac (first_rounds keys.rows (rounds keys.size)) zeros (cut n text.now)) }
 {
     let (blocks, _) = text.as_chunks::<{ lengths::BLOCK }>();
     let mut x = [0u32; 4];

@@ -35,9 +35,9 @@ fn group(last: ChainSet, before: ChainSet, first: &[u8], out: &mut [u8])
 
 // The reading book of a valid reading chain, into a buffer of its length. The group folds from set r,
 // and from set 0 for the block before, to the message set.
-fn fill(keys: &RoundKeys, chain: &[u8], out: &mut [u8])
-    requires { ReadingChain keys.now.size chain.now × (length out.old ≡ reading_book_length keys.now.size) }
-    ensures { out.new ≡ reading_book_of (S.rounds keys.now.size) keys.now.rows chain.now }
+fn fill(keys: RoundKeys, chain: &[u8], out: &mut [u8])
+    requires { ReadingChain keys.size chain.now × (length out.old ≡ reading_book_length keys.size) }
+    ensures { out.new ≡ reading_book_of (S.rounds keys.size) keys.rows chain.now }
 {
     let r = keys.size.rounds();
     let at = lengths::SET * (r + 1);
@@ -63,6 +63,6 @@ pub fn build_reading(schedule: u8, key: &[u8], chain: &[u8], out: &mut [u8]) -> 
     if out.len() < end {
         return Err(Refusal::ShortBuffer);
     }
-    fill(&key.round_keys(), chain, &mut out[0..end]);
+    fill(key.round_keys(), chain, &mut out[0..end]);
     Ok(())
 }

@@ -32,9 +32,9 @@ fn round_tables(round: Round, k: [u32; 6], out: &mut [u8])
 
 // The tables of round l of a reading chain; the last row of round keys is that of round 0. Crate book
 // says beside its own why this and `round_parts` are not one function with those.
-fn round_at(keys: &RoundKeys, chain: &[u8], l: usize, out: &mut [u8])
-    requires { ReadingChain keys.now.size chain.now × (l < S.rounds keys.now.size) × (length out.old ≡ round_length) }
-    ensures { out.new ≡ reading_book_round (S.rounds keys.now.size) keys.now.rows chain.now l }
+fn round_at(keys: RoundKeys, chain: &[u8], l: usize, out: &mut [u8])
+    requires { ReadingChain keys.size chain.now × (l < S.rounds keys.size) × (length out.old ≡ round_length) }
+    ensures { out.new ≡ reading_book_round (S.rounds keys.size) keys.rows chain.now l }
 {
     let r = keys.size.rounds();
     let round = Round::of_chain(keys.size, chain, l);
@@ -42,9 +42,9 @@ fn round_at(keys: &RoundKeys, chain: &[u8], l: usize, out: &mut [u8])
 }
 
 // The tables of all rounds.
-pub fn round_parts(keys: &RoundKeys, chain: &[u8], out: &mut [u8])
-    requires { ReadingChain keys.now.size chain.now × (length out.old ≡ S.rounds keys.now.size * round_length) }
-    ensures { out.new ≡ chunks (S.rounds keys.now.size) (reading_book_round (S.rounds keys.now.size) keys.now.rows chain.now) }
+pub fn round_parts(keys: RoundKeys, chain: &[u8], out: &mut [u8])
+    requires { ReadingChain keys.size chain.now × (length out.old ≡ S.rounds keys.size * round_length) }
+    ensures { out.new ≡ chunks (S.rounds keys.size) (reading_book_round (S.rounds keys.size) keys.rows chain.now) }
 {
     in_parts(out, lengths::ROUND_TABLES, keys.size.rounds(), |l, part| {
         round_at(keys, chain, l, part)

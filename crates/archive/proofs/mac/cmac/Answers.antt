@@ -33,6 +33,6 @@ returns c =
     let m = c.args.message.now in
     let keys = c.subkeys.ensures in
     let message = bytes_of_lem m (λ j h. search rules) in
-    let mac = c.encipher.ensures ∙ ap (forward c.args.keys.now.rows (rounds c.args.keys.now.size)) c.xor.ensures in
-    cmac_is c.args.keys.now.rows (rounds c.args.keys.now.size) m _ _ _ _ _ _ _ _ c.blocks_before-n.ensures keys.k1 keys.k2 (part_end m _) message
+    let mac = c.encipher.ensures ∙ ap (forward c.args.keys.rows (rounds c.args.keys.size)) c.xor.ensures in
+    cmac_is c.args.keys.rows (rounds c.args.keys.size) m _ _ _ _ _ _ _ _ c.blocks_before-n.ensures keys.k1 keys.k2 (part_end m _) message
     c.cbc_mac-x.ensures c.last_words-last.ensures mac c.bytes.ensures

@@ -14,7 +14,7 @@ use Rattle.archive.proofs.OpenedLaws.{text_bad, text_made}
 use Rattle.archive.proofs.open.open_text.Goals as goal
 
 size : (s : Sealed) (k : ℕ) → length (opened_of s k) ≡ 16
-size s k = (block_opened s.keys.now.rows (rounds s.keys.now.size) (imaged s.table.now) (λ b. block_imaged s.table.now b s.decodes) s.iv s.text.now k).size
+size s k = (block_opened s.keys.rows (rounds s.keys.size) (imaged s.table.now) (λ b. block_imaged s.table.now b s.decodes) s.iv s.text.now k).size
 
 pub returns-in_err-v : goal.returns-in_err-v
 returns-in_err-v c =

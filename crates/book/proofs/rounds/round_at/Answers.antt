@@ -11,4 +11,4 @@ pub returns : goal.returns
 unfolding book_round
 returns c =
     c.round_tables.ensures
-    ∙ ap (λ (q : RoundCodings). round_part q (get_or c.args.keys.now.rows c.args.l [])) c.of_chain-round.ensures
+    ∙ ap (λ (q : RoundCodings). round_part q (get_or c.args.keys.rows c.args.l [])) c.of_chain-round.ensures

@@ -17,11 +17,11 @@ loop-block-init c = sym words_zeros
 
 pub loop-block-preserved : goal.loop-block-preserved
 loop-block-preserved c =
-    let rows = c.args.keys.now.rows in
+    let rows = c.args.keys.rows in
     let text = c.args.text.now in
     let l = c.loop-block in
     let k = l.block-index in
-    let r = rounds c.args.keys.now.size in
+    let r = rounds c.args.keys.size in
     let low : Bytes text = bytes_of_lem text (λ j b. omega (arith, c.type_inv.text j)) in
     mac_turn rows r (C.cbc_mac (L.first_rounds rows r) zeros (cut k text)) (take 16 (drop (16 * k) text)) l.x c.words.result c.encipher-y.result
     (mac_block rows r zeros (cut k text) block_zeros)
@@ -34,6 +34,6 @@ loop-block-preserved c =
 pub returns : goal.returns
 returns c =
     let a = c.args in
-    let k = a.keys.now in
+    let k = a.keys in
     let all : c.loop-block.block-index ≡ a.n = omega (arith, lent_count 16 a.n _ _ _ c.as_chunks.ensures.front (omega arith)) in
     c.loop-block.invariant ∙ ap (λ (n : ℕ). words4 (C.cbc_mac (L.first_rounds k.rows (rounds k.size)) zeros (cut n a.text.now))) all

@@ -11,6 +11,6 @@ of_chain-round-requires c = ((3, 0, c.requires.0), c.requires.1)
 pub returns : goal.returns
 unfolding reading_book_round
 returns c =
-    let keys = c.args.keys.now in
+    let keys = c.args.keys in
     c.round_tables.ensures
     ∙ ap₂ reading_part c.of_chain-round.ensures (row_back_is (rounds keys.size) c.rounds-r.result c.args.l keys.rows c.rounds-r.ensures)

@@ -9,5 +9,5 @@ use Rattle.archive.proofs.blocks.Sealed.open_block.Goals as goal
 pub returns : goal.returns
 returns c =
     let s = c.args.self.now in
-    opened_words s.keys.now.rows s.keyed _ (imaged s.table.now) (λ b. block_imaged s.table.now b s.decodes) s.iv s.text.now c.args.k _ _
+    opened_words s.keys.rows s.keyed _ (imaged s.table.now) (λ b. block_imaged s.table.now b s.decodes) s.iv s.text.now c.args.k _ _
     _ _ c.words_before-prior.ensures c.words_of-c.ensures c.decipher.ensures (c.bytes.ensures ∙ ap bytes c.xor.ensures)

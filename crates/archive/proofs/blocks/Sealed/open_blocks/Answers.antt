@@ -18,7 +18,7 @@ turn : (s : Sealed) (out₀ : List ℕ) (k n : ℕ) (out y : List ℕ) → k + 1
 turn s out₀ k n out y e eo ey =
     let f = imaged s.table.now in
     let g = opened_of s in
-    let size : (k : ℕ) → length (g k) ≡ 16 = λ k. (block_opened s.keys.now.rows (rounds s.keys.now.size) f (λ b. block_imaged s.table.now b s.decodes) s.iv s.text.now k).size in
+    let size : (k : ℕ) → length (g k) ≡ 16 = λ k. (block_opened s.keys.rows (rounds s.keys.size) f (λ b. block_imaged s.table.now b s.decodes) s.iv s.text.now k).size in
     open_turn g size out₀ k out y eo ey ∙ (λ i. chunks (e i) g ++ drop (16 * e i) out₀)
 
 pub loop-j-init : goal.loop-j-init
@@ -29,7 +29,7 @@ pub loop-m-preserved : goal.loop-m-preserved
 loop-m-preserved c =
     let s = c.args.self.now in
     let block =
-    opened_four s.keys.now.rows s.keyed (rounds s.keys.now.size) (imaged s.table.now) (λ b. block_imaged s.table.now b s.decodes) s.iv s.text.now (4 * c.loop-j.j) _ _ _ _ _ _
+    opened_four s.keys.rows s.keyed (rounds s.keys.size) (imaged s.table.now) (λ b. block_imaged s.table.now b s.decodes) s.iv s.text.now (4 * c.loop-j.j) _ _ _ _ _ _
     c.words_before-prior.ensures c.words_of-a.ensures c.words_of-b.ensures c.words_of-c.ensures c.words_of-d.ensures c.decipher_four-y.ensures c.loop-m.m (omega arith) _
     (c.bytes.ensures ∙ ap bytes c.xor.ensures) in (
       omega arith,
