@@ -33,9 +33,6 @@ module _ (f : ℕ → List ℕ) (len : (k : ℕ) → length (f k) ≡ 16) (d : L
     pub made_next : block_of out k ≡ block_of d k
     made_next = ap (λ (l : List ℕ). take 16 (drop (16 * k) l)) e ∙ ap (take 16) (drop_at (chunks k f) (drop (16 * k) d) (16 * k) (made_length k))
 
-    pub made_rest : drop (16 * k) out ≡ drop (16 * k) d
-    made_rest = ap (drop (16 * k)) e ∙ drop_at (chunks k f) (drop (16 * k) d) (16 * k) (made_length k)
-
     -- one block more
     pub made_more : (y : List ℕ) → y ≡ f k → Made f d (k + 1) (take (16 * k) out ++ y ++ drop (16 * k + 16) out)
     made_more y w =
@@ -70,16 +67,3 @@ module _ (f : ℕ → List ℕ) (len : (k : ℕ) → length (f k) ≡ 16) (d : L
 
         size : length (block_of out i) ≡ 16
         size = length-take-le 16 (drop (16 * i) out) (rw (length-drop (16 * i) out, whole) (omega arith))
-
--- a block of a list that another follows
-pub block_front : (a b : List ℕ) (k : ℕ) → 16 * k + 16 ≤ length a → block_of (a ++ b) k ≡ block_of a k
-block_front a b k h =
-    ext_get_or 0 (block_of (a ++ b) k) (block_of a k) (size (a ++ b) (rw (length-append a b) (omega arith)) ∙ sym (size a h)) (λ j l.
-    let m : j < 16 = rw (size (a ++ b) (rw (length-append a b) (omega arith))) at l in
-    at (a ++ b) j m ∙ get_or-append a b 0 (16 * k + j) (omega arith) ∙ sym (at a j m))
-  where
-    size : (l : List ℕ) → 16 * k + 16 ≤ length l → length (block_of l k) ≡ 16
-    size l r = length-take-le 16 (drop (16 * k) l) (rw (length-drop (16 * k) l) (omega arith))
-
-    at : (l : List ℕ) (j : ℕ) → j < 16 → get_or (block_of l k) j 0 ≡ get_or l (16 * k + j) 0
-    at l j m = get_or-take 16 (drop (16 * k) l) j 0 m ∙ get_or-drop (16 * k) l j 0
