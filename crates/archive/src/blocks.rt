@@ -49,7 +49,8 @@ fn decipher_four(keys: &RoundKeys, blocks: [[u32; 4]; 4]) -> [[u32; 4]; 4]
 }
 
 // A sealed text, and what opens it: round keys, a byte for each byte in each place of a block, and what
-// stands in front of the first block.
+// stands in front of the first block. That a table which is lent holds bytes its type tells no proof, so
+// it is said here.
 #[derive(Clone, Copy)]
 pub struct Sealed<'a> {
     pub keys: RoundKeys,

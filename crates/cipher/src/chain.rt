@@ -1,7 +1,7 @@
 // Checks of a lone set and of a chain (01, "Chain of codings": coding, set, chain and mask are its
 // terms). Each rule is tested by a function of its own; the checks ask for the rules in the order of
 // the refusals.
-ghost use Rattle.std.specs.Prelude.{◌≡◌, ◌+◌, ◌*◌, ◌<◌, ◌≤◌, ◌&&◌, length, ◌==◌};
+ghost use Rattle.std.specs.Prelude.{◌≡◌, ◌+◌, ◌*◌, ◌<◌, ◌≤◌, length};
 ghost use Rattle.cipher.specs.Lengths.{coding_length, round_codings_length, set_length};
 ghost use Rattle.lists.specs.Refusals.{first};
 ghost use Rattle.lists.specs.Every.{every};
