@@ -24,7 +24,7 @@ returns-in_err-v c =
     ∙ sym (text_bad _ (size c.args.sealed.now) _ q.0 q.2 _ _ c.open_block-last.ensures (sym c.padding.ensures ∙ none.0))
 
 pub overflow_sub-left : goal.overflow_sub-left
-overflow_sub-left c = few c.open_block-last.result _ (sym c.padding.ensures ∙ or_some _ _ _ c.in_ok-v.ensures.value)
+overflow_sub-left c = omega (arith, few c.open_block-last.result _ (sym c.padding.ensures ∙ or_some _ _ _ c.in_ok-v.ensures.value))
 
 pub overflow_sub-result : goal.overflow_sub-result
 overflow_sub-result c =
