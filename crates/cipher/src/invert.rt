@@ -8,13 +8,6 @@ ghost use Rattle.cipher.specs.Coding.{Permutation, FirstPermutations, coding_at,
 use crate::lengths;
 use parts::in_parts;
 
-// A byte as a place in a slice.
-pub fn wide(x: u8) -> usize
-    ensures { (result ≡ x) × (result < 256) }
-{
-    x as usize
-}
-
 // Coding k of a slice inverted: at the image of v stands v.
 fn invert_one(codings: &[u8], k: usize, out: &mut [u8])
     requires { (coding_length * k + coding_length ≤ length codings.now) × (length out.old ≡ coding_length) × Permutation (coding_at codings.now k) }

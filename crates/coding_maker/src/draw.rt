@@ -8,7 +8,6 @@ ghost use Rattle.coding_maker.specs.Draw as D;
 ghost use Rattle.coding_maker.specs.Source.{rest, past, Near};
 
 use crate::numbers::{Numbers, SKIPPED};
-use cipher::invert::wide;
 use cipher::lengths;
 
 // Random bytes, what each stands for, and the place of the first that is left, which each draw moves on: so
@@ -58,7 +57,7 @@ impl<'a> Source<'a> {
             let number = self.numbers.stands_for(k, self.random[at]);
             if number < SKIPPED {
                 self.at = at + 1;
-                return wide(number);
+                return usize::from(number);
             }
         }
         self.at = self.at.max(self.random.len()) + 1;

@@ -5,7 +5,6 @@ ghost use Rattle.lists.specs.Tabulation.{tab};
 ghost use Rattle.coding_maker.specs.Draw.{limit};
 ghost use Rattle.coding_maker.specs.Numbers.{stands_for, number_table};
 
-use cipher::invert::wide;
 use cipher::lengths;
 use parts::in_parts;
 
@@ -59,6 +58,6 @@ impl Numbers {
         requires { k < 16 }
         ensures { result ≡ stands_for k b }
     {
-        self.table[lengths::BYTES * k + wide(b)]
+        self.table[lengths::BYTES * k + usize::from(b)]
     }
 }

@@ -5,7 +5,6 @@ ghost use Rattle.cipher.specs.Book.{book_body};
 ghost use Rattle.cipher.specs.Refusal.{number_of};
 ghost use Rattle.driver.specs.Driver.{admitted_told, admit_answer, body_length};
 
-use cipher::invert::wide;
 use cipher::lengths;
 use cipher::refusal::Refusal;
 use cipher::size::KeySize;
@@ -16,7 +15,7 @@ pub fn admit(book: &[u8]) -> Result<KeySize, Refusal>
     ensures { admitted_told result ≡ admit_answer book.now }
 {
     let size = KeySize::of_book_len(book.len()).ok_or(Refusal::BookLength)?;
-    if wide(book[0]) != size.key_len() {
+    if usize::from(book[0]) != size.key_len() {
         return Err(Refusal::SizeByte);
     }
     Ok(size)

@@ -4,7 +4,6 @@
 ghost use Rattle.std.specs.Prelude.{◌≡◌, ◌<◌};
 ghost use Rattle.reader.specs.Round.{pair_of, turned_byte, turned_bytes};
 
-use cipher::invert::wide;
 use cipher::lengths;
 use table_reader::entry::{RoundTables, joined};
 
@@ -27,9 +26,9 @@ fn turned_byte(t: &RoundTables, b: &[u8; 16], i: usize, m: usize, v: usize) -> u
     ensures { result ≡ turned_byte t.now b.now i m v }
 {
     let p = pair(b, i, 2 * m + v);
-    let lo = t[lengths::TURN * (8 * i + 2 * m) + wide(p)];
+    let lo = t[lengths::TURN * (8 * i + 2 * m) + usize::from(p)];
     let q = pair(b, i, 2 * m + 1 + v);
-    let hi = t[lengths::TURN * (8 * i + (2 * m + 1)) + wide(q)];
+    let hi = t[lengths::TURN * (8 * i + (2 * m + 1)) + usize::from(q)];
     joined(lo, hi)
 }
 

@@ -7,7 +7,6 @@ ghost use Rattle.cipher.specs.Coding.{coding_at};
 ghost use Rattle.reading.specs.Lengths.{subtract_length};
 ghost use Rattle.reading_book.specs.Made.{difference_entries, made_subtract};
 
-use cipher::invert::wide;
 use cipher::lengths;
 use parts::in_parts;
 use reading::lengths::SUBTRACT;
@@ -25,7 +24,7 @@ fn keyed_difference(s: usize, l: u8) -> usize
     requires { l < 16 }
     ensures { (result ≡ bit_xor (s % 16) (bit_xor 15 l)) × (result < 16) }
 {
-    s % lengths::VALUES ^ wide(COMPLEMENT ^ l)
+    s % lengths::VALUES ^ usize::from(COMPLEMENT ^ l)
 }
 
 // The half byte g at place p of the set after the round, coded.

@@ -8,7 +8,6 @@ ghost use Rattle.std.specs.Prelude.{◌≡◌, ◌≤◌, length, OnErr};
 ghost use Rattle.std.specs.Io.{ReadsAtMost};
 ghost use Rattle.round.specs.Round.{wanted as wanted_bytes};
 
-use cipher::invert::wide;
 use cipher::lengths;
 use cipher::size::KeySize;
 use std::io;
@@ -30,7 +29,7 @@ const LONGEST: usize = 1
 fn wanted(first: u8) -> usize
     ensures { (result ≡ wanted_bytes first) × (1 ≤ result) × (result ≤ 30513) }
 {
-    let Some(size) = KeySize::of_key_len(wide(first)) else {
+    let Some(size) = KeySize::of_key_len(usize::from(first)) else {
         return 1;
     };
     1 + size.key_len() + size.chain_len() + lengths::BLOCK

@@ -10,7 +10,6 @@ use crate::rounds::Keyed;
 use crate::text::{refused, two_lines};
 use cipher::block::block_at;
 use cipher::chain::check_sized;
-use cipher::invert::wide;
 use cipher::lengths;
 use cipher::refusal::Refusal;
 use cipher::size::KeySize;
@@ -55,7 +54,7 @@ fn on_input(input: &[u8]) -> Result<Report, Refusal>
     if input.is_empty() {
         return Err(Refusal::KeyLength);
     }
-    let n = wide(input[0]);
+    let n = usize::from(input[0]);
     let size = KeySize::of_key_len(n).ok_or(Refusal::KeyLength)?;
     let end = 1 + n;
     if input.len() < end {

@@ -4,7 +4,6 @@ ghost use Rattle.std.specs.Prelude.{◌≡◌, ℕ, ◌+◌, ◌*◌, ◌<◌, �
 ghost use Rattle.std.specs.Int.Bits.{bit_xor};
 ghost use Rattle.table_maker.specs.Rows.{row_by, table_by, RowFits, TableFits};
 
-use cipher::invert::wide;
 use cipher::lengths;
 use parts::in_parts;
 
@@ -44,9 +43,9 @@ fn row<O: Operation>(e: &[u8], s: u8, b: &[u8], out: &mut [u8])
     requires { (16 ≤ length b.now) × (length out.old ≡ 16) × RowFits O.op e.now s b.now }
     ensures { out.new ≡ row_by O.op e.now s b.now }
 {
-    let at = wide(s);
+    let at = usize::from(s);
     for (q, entry) in out.iter_mut().enumerate() {
-        *entry = e[O::of(at, wide(b[q]))];
+        *entry = e[O::of(at, usize::from(b[q]))];
     }
 }
 

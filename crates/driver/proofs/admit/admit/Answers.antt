@@ -16,12 +16,12 @@ returns-in_err-size c =
 pub bounds-book-0 : goal.bounds-book-0
 bounds-book-0 c = omega (arith, book_found _ _ _ c.of_book_len.ensures c.in_ok-size.ensures.ok_part)
 
-pub returns-then-wide-key_len : goal.returns-then-wide-key_len
-returns-then-wide-key_len c =
+pub returns-then-from-key_len : goal.returns-then-from-key_len
+returns-then-from-key_len c =
     sym (byte_refused _ c.in_ok-size.size (book_found _ _ _ c.of_book_len.ensures c.in_ok-size.ensures.ok_part) (λ e.
-    c.if-wide-key_len.true (c.wide.ensures.0 ∙ e ∙ sym c.key_len.ensures)))
+    c.if-from-key_len.true (c.from.ensures ∙ e ∙ sym c.key_len.ensures)))
 
 pub returns : goal.returns
 returns c =
     sym (book_admitted _ c.in_ok-size.size (book_found _ _ _ c.of_book_len.ensures c.in_ok-size.ensures.ok_part)
-    (sym c.wide.ensures.0 ∙ c.if-wide-key_len.false ∙ c.key_len.ensures))
+    (sym c.from.ensures ∙ c.if-from-key_len.false ∙ c.key_len.ensures))

@@ -9,5 +9,5 @@ pub returns : goal.returns
 unfolding turned_byte
 returns c =
     c.joined.ensures
-    ∙ ap₂ (λ (x y : ℕ). x + 16 * y) (turn_at_lem _ _ _ _ _ _ (c.wide.ensures.0 ∙ c.pair-p.ensures))
-    (turn_at_lem _ _ _ _ _ _ (c.wide-2.ensures.0 ∙ c.pair-q.ensures))
+    ∙ ap₂ (λ (x y : ℕ). x + 16 * y) (turn_at_lem _ _ _ _ _ _ (c.from.ensures ∙ c.pair-p.ensures))
+    (turn_at_lem _ _ _ _ _ _ (c.from-2.ensures ∙ c.pair-q.ensures))

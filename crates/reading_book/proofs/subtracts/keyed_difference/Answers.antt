@@ -11,4 +11,4 @@ returns c =
     let s = c.args.s % 16 in
     let l = c.args.l in
     let a = xor_lt 4 15 l (lit< tt) c.requires in
-    (ap (bit_xor s) c.wide.ensures.0, xor_lt 4 s c.wide.result (omega arith) (omega (arith, c.wide.ensures.0, a)))
+    (ap (bit_xor s) c.from.ensures, xor_lt 4 s c.from.result (omega arith) (omega (arith, c.from.ensures, a)))

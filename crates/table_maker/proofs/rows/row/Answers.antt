@@ -12,7 +12,7 @@ pub loop-q-preserved : goal.loop-q-preserved
 loop-q-preserved g c =
     let a = c.args in
     row_next g.O.Operation.op a.e.now a.s a.b.now a.out.now c.of.result c.loop-q.q c.loop-q.out c.loop-q.invariant
-    (c.of.ensures ∙ ap₂ g.O.Operation.op c.wide-at.ensures.0 c.wide.ensures.0) (omega arith) c.requires.1
+    (c.of.ensures ∙ ap₂ g.O.Operation.op c.from-at.ensures c.from.ensures) (omega arith) c.requires.1
 
 pub returns : goal.returns
 returns g c =

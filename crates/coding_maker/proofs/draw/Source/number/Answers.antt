@@ -22,7 +22,7 @@ returns-then-number-lt-SKIPPED c =
     let z = taken_here s k at c.loop-at-test.true low.0 in
     let p : at ≡ source.at + skipped k (rest source) = omega (arith, z, c.loop-at.invariant.2) in
     let q : at + 1 ≡ source.at + suc (skipped k (rest source)) = omega (arith, p) in (
-      c.wide.ensures.0 ∙ n ∙ low.1 ∙ chosen_is s k source.at at p (get_or s at 0) refl,
+      c.from.ensures ∙ n ∙ low.1 ∙ chosen_is s k source.at at p (get_or s at 0) refl,
       λ i. record { numbers = (e i).numbers; random = (e i).random; at = q i },
     )
 
