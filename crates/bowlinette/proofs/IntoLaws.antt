@@ -1,5 +1,6 @@
 -- What a C function answers, and what it leaves behind its pointers, from what the operation gave.
 use mathlib.Core.Path.{◌≡◌, refl, sym, ap, ◌∙◌}
+use mathlib.Core.List.{List}
 use Prim.Native.Nat.{ℕ, zero, suc, ◌<◌}
 use Rattle.std.proofs.Common.{Result, Ok, Err}
 use Rattle.std.specs.Result.{MatchResult, IsOkAnd}
@@ -7,7 +8,9 @@ use native.Mathlib.Omega.{arith}
 use Rattle.cipher.specs.Refusal.{number_of}
 use Rattle.cipher.proofs.AnswerLaws.{number_more}
 use Rattle.cipher.specs.declared.refusal.Refusal.{Refusal}
+use Rattle.inkfile.specs.Reading.{Told}
 use Rattle.bowlinette.specs.Into.{into, delivered, kept}
+use Rattle.bowlinette.specs.Ink.{ink_numbers}
 
 -- the number r and the number l that were delivered of what is told in t, beside what x is in the buffers
 pub kept_told : {B : Type 0} (answer : (ℕ × ℕ) × B) (t : ℕ × ℕ) (x : B) (r l old : ℕ) → (r, l) ≡ into t old → (t, x) ≡ answer → ((r, l), x) ≡ kept answer old
@@ -42,3 +45,8 @@ pub mapped : {A B : Type 0} (f : A → B) (r : Result A Refusal) (s : Result B R
 mapped f (Ok x) (Ok y) P h e = h x y e
 mapped f (Ok x) (Err q) P h e = absurd e
 mapped f (Err q) s P h e = e
+
+-- the 18 numbers v of what is told in t of an ink file, which is the answer a
+pub ink_told_lem : (t a : Told) (v : List ℕ) → v ≡ (ink_numbers t).1 → t ≡ a → (t.refusal, v) ≡ ink_numbers a
+unfolding ink_numbers
+ink_told_lem t a v e h = (λ i. (t.refusal, e i)) ∙ ap ink_numbers h
