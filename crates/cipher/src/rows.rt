@@ -17,8 +17,8 @@ impl RoundKeys {
     // A block enciphered. Inlined: by a call each block of a CBC-MAC waits for the one before to be
     // stored, 1.15 to 1.20 of the time.
     #[inline(always)]
-    pub fn encipher(self, block: [u32; 4]) -> [u32; 4]
-        ensures { result ≡ L.forward self.rows (S.rounds self.size) block }
+    pub fn encipher(&self, block: [u32; 4]) -> [u32; 4]
+        ensures { result ≡ L.forward self.now.rows (S.rounds self.now.size) block }
     {
         let mut x = block;
         // By fours, so that no words are moved about between rounds (docs/SPEED.md), and by index: as
@@ -37,8 +37,8 @@ impl RoundKeys {
     }
 
     // A block deciphered.
-    pub fn decipher(self, block: [u32; 4]) -> [u32; 4]
-        ensures { result ≡ L.backward self.rows (S.rounds self.size) block }
+    pub fn decipher(&self, block: [u32; 4]) -> [u32; 4]
+        ensures { result ≡ L.backward self.now.rows (S.rounds self.now.size) block }
     {
         let mut x = block;
         // By fours, as above.
@@ -56,9 +56,9 @@ impl RoundKeys {
     }
 
     // The first n rounds on a block.
-    pub fn first_rounds(self, n: usize, block: [u32; 4]) -> [u32; 4]
+    pub fn first_rounds(&self, n: usize, block: [u32; 4]) -> [u32; 4]
         requires { n ≤ 32 }
-        ensures { result ≡ L.forward self.rows n block }
+        ensures { result ≡ L.forward self.now.rows n block }
     {
         let mut x = block;
         for row in &self.rows[..n] {

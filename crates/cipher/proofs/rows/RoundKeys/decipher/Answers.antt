@@ -6,11 +6,11 @@ use Rattle.cipher.proofs.LeaLaws.{backward_four}
 use Rattle.cipher.proofs.rows.RoundKeys.decipher.Goals as goal
 
 pub loop-q-init : goal.loop-q-init
-loop-q-init c = (omega arith, omega (arith, rounds_le c.args.self.size), refl)
+loop-q-init c = (omega arith, omega (arith, rounds_le c.args.self.now.size), refl)
 
 pub loop-q-preserved : goal.loop-q-preserved
 loop-q-preserved c =
-    let rows = c.args.self.rows in
+    let rows = c.args.self.now.rows in
     let q = c.loop-q.q - 1 in
     let e : q + 1 ≡ c.loop-q.q = omega arith in (
       omega arith,
@@ -26,6 +26,6 @@ unfolding L.backward
 returns c =
     let a = c.args in
     let e : 0 ≡ 4 * c.loop-q.q = omega arith in
-    ap (λ (n : ℕ). L.backward a.self.rows n c.loop-q.x) e
+    ap (λ (n : ℕ). L.backward a.self.now.rows n c.loop-q.x) e
     ∙ c.loop-q.invariant.2
-    ∙ ap (λ (n : ℕ). L.backward a.self.rows n a.block) (ap (λ (n : ℕ). 4 * (n / 4)) c.rounds-q.ensures ∙ rounds_fours a.self.size)
+    ∙ ap (λ (n : ℕ). L.backward a.self.now.rows n a.block) (ap (λ (n : ℕ). 4 * (n / 4)) c.rounds-q.ensures ∙ rounds_fours a.self.now.size)

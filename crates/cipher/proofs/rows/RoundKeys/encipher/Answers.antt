@@ -7,11 +7,11 @@ use Rattle.cipher.proofs.rows.RoundKeys.encipher.Goals as goal
 
 pub loop-q-init : goal.loop-q-init
 unfolding L.forward
-loop-q-init c = (omega arith, omega (arith, rounds_le c.args.self.size), refl)
+loop-q-init c = (omega arith, omega (arith, rounds_le c.args.self.now.size), refl)
 
 pub loop-q-preserved : goal.loop-q-preserved
 loop-q-preserved c =
-    let rows = c.args.self.rows in
+    let rows = c.args.self.now.rows in
     let q = c.loop-q.q in (
       omega arith,
       c.loop-q.invariant.1,
@@ -28,4 +28,4 @@ returns c =
     let a = c.args in
     let e : 4 * c.loop-q.q ≡ 4 * (c.rounds-q-end.result / 4) = omega arith in
     c.loop-q.invariant.2
-    ∙ ap (λ (n : ℕ). L.forward a.self.rows n a.block) (e ∙ ap (λ (n : ℕ). 4 * (n / 4)) c.rounds-q-end.ensures ∙ rounds_fours a.self.size)
+    ∙ ap (λ (n : ℕ). L.forward a.self.now.rows n a.block) (e ∙ ap (λ (n : ℕ). 4 * (n / 4)) c.rounds-q-end.ensures ∙ rounds_fours a.self.now.size)

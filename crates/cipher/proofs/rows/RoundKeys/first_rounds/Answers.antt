@@ -11,7 +11,7 @@ loop-row-init c = (omega arith, refl)
 
 pub loop-row-preserved : goal.loop-row-preserved
 loop-row-preserved c =
-    let rows = c.args.self.rows in
+    let rows = c.args.self.now.rows in
     let k = c.loop-row.row-index in
     let all : length (take c.args.n rows) ≡ c.args.n = length-take-le c.args.n rows (omega arith) in
     let here : k < c.args.n = omega arith in (
@@ -23,7 +23,7 @@ loop-row-preserved c =
 
 pub returns : goal.returns
 returns c =
-    let rows = c.args.self.rows in
+    let rows = c.args.self.now.rows in
     let all : length (take c.args.n rows) ≡ c.args.n = length-take-le c.args.n rows (omega arith) in
     let e : c.loop-row.row-index ≡ c.args.n = omega arith in
     c.loop-row.invariant.1 ∙ ap (λ (n : ℕ). L.forward rows n c.args.block) e
