@@ -32,6 +32,17 @@ fn head(kind: u8, n: usize) -> [u8; 6]
     [layout::MARK, kind, b[0], b[1], b[2], b[3]]
 }
 
+// Bytes copied into a buffer of their length. By a loop: copy_from_slice from one lent slice to another calls memmove,
+// which a C program would have to bring.
+fn put(out: &mut [u8], bytes: &[u8])
+    requires { length out.old ≡ length bytes.now }
+    ensures { out.new ≡ bytes.now }
+{
+    for (k, byte) in out.iter_mut().enumerate() {
+        *byte = bytes[k];
+    }
+}
+
 // A record over the bytes of out from a place on; the place behind it.
 fn put_record(out: &mut [u8], at: usize, kind: u8, body: &[u8]) -> usize
     requires { at + F.head_length + length body.now ≤ length out.old }
@@ -41,7 +52,7 @@ fn put_record(out: &mut [u8], at: usize, kind: u8, body: &[u8]) -> usize
     let start = at + layout::HEAD;
     let end = start + body.len();
     out[at..start].copy_from_slice(&h);
-    out[start..end].copy_from_slice(body);
+    put(&mut out[start..end], body);
     end
 }
 

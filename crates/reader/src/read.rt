@@ -16,6 +16,16 @@ use cipher::refusal::Refusal;
 use cipher::size::KeySize;
 use reading::lengths::of_reading_len;
 
+// A text copied into a buffer of its length, by a loop as in inkfile's `put`.
+fn copy(text: &[u8], out: &mut [u8])
+    requires { length out.old ≡ length text.now }
+    ensures { out.new ≡ text.now }
+{
+    for (k, byte) in out.iter_mut().enumerate() {
+        *byte = text[k];
+    }
+}
+
 // A sealed text of whole blocks read from an IV into a buffer of its length.
 fn read_blocks(size: KeySize, book: &[u8], iv: [u8; 16], sealed: &[u8], out: &mut [u8])
     requires { (length book.now ≡ reading_book_length size) × (length sealed.now % block_length ≡ 0) × (length out.old ≡ length sealed.now) }
@@ -23,7 +33,7 @@ fn read_blocks(size: KeySize, book: &[u8], iv: [u8; 16], sealed: &[u8], out: &mu
 {
     let r = size.rounds();
     let at = lengths::ROUND_TABLES * r;
-    out.copy_from_slice(sealed);
+    copy(sealed, out);
     rounds(book, r, out);
     let (groups, _) = book[at..].as_chunks::<{ lengths::GROUP }>();
     folds(&groups[0], iv, sealed, out);

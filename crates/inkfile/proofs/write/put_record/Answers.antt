@@ -12,5 +12,5 @@ returns c =
     let h = c.head-h.ensures in (
       refl,
       record_over _ _ _ _ _ _ _ h c.requires (part_over _ _ c.head-h.result a.at 6 c.copy_from_slice.ensures.after (sym (ap length h)))
-          (part_over _ _ _ (a.at + 6) n c.copy_from_slice-2.ensures.after refl),
+          (part_over _ _ _ (a.at + 6) n c.put.ensures refl),
     )

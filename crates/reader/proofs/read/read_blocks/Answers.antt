@@ -12,5 +12,5 @@ returns c =
     let a = c.args in
     let q = c.rounds-r.result in
     read_is a.book.now a.iv a.sealed.now q (omega (arith, c.rounds-r.ensures, rounds_more a.size)) c.requires.1 _ _ _ _
-    c.copy_from_slice.ensures.after c.rounds.ensures (λ x y. group_is a.book.now q _ x y (omega (arith, c.rounds-r.ensures, c.requires.0)) c.as_chunks.ensures.front) c.folds.ensures
+    c.copy.ensures c.rounds.ensures (λ x y. group_is a.book.now q _ x y (omega (arith, c.rounds-r.ensures, c.requires.0)) c.as_chunks.ensures.front) c.folds.ensures
     ∙ ap (λ (r : ℕ). read_text a.book.now r a.iv a.sealed.now) c.rounds-r.ensures

@@ -1,0 +1,7 @@
+-- `read::copy` meets its contract. The invariant: k bytes are copied, and the rest is as it was.
+use Rattle.std.proofs.Common.{◌≡◌, ◌++◌, ◌≤◌, length, get_or, drop}
+use Rattle.lists.specs.Tabulation.{tab}
+use Rattle.reader.proofs.read.copy.Given as goal
+
+abbrev pub invariant-loop-k : goal.invariant-loop-k
+invariant-loop-k l = (l.k ≤ length l.text) × (length l.out ≡ length l.initial.out) × (l.out ≡ tab l.k (λ i. get_or l.text i 0) ++ drop l.k l.initial.out)
