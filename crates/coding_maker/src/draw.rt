@@ -80,7 +80,10 @@ impl<'a> Source<'a> {
         ensures { (self.new ≡ past D.coding_draws self.old) × (out.new ≡ D.coding_from (rest self.old)) }
     {
         unshuffle(out);
-        for place in (1..out.len()).rev() {
+        // Counted up: over a range turned round a turn carries one number more, and making a chain took 1.15 of the
+        // time before, in place of 1.06.
+        for done in 1..lengths::CODING {
+            let place = lengths::CODING - done;
             let other = self.number(place);
             // Not by out.swap: that was tried, and drawing a coding took more than twice its time.
             let x = out[place];

@@ -39,7 +39,7 @@ fn fill_row(k: usize, row: &mut [u8])
 // What every byte stands for, where a number from 0 to k is drawn: a row of 256 for each k below 16.
 #[derive(Drop)]
 pub struct Numbers {
-    table: [u8; 4096],
+    pub table: [u8; 4096],
     ghost made: { table ≡ number_table },
 }
 
