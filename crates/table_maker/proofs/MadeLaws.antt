@@ -29,6 +29,10 @@ pub length_turned : (above below : ℕ → ℕ → ℕ) (sum : ℕ → ℕ) (s S
 unfolding turned_by
 length_turned above below sum s S p = length_table ◌+◌ _ _ _ ∙ ap (λ (n : ℕ). n * 16) (length_tab 16 _)
 
+pub length_fold : (s u S k : List ℕ) (p : ℕ) → length (made_fold s u S k p) ≡ 256
+unfolding made_fold
+length_fold s u S k p = length_table bit_xor _ _ _ ∙ ap (λ (n : ℕ). n * 16) (length_tab 16 _)
+
 -- ---- turned half bytes
 
 pub parts_lt : (i u v : ℕ) → v < 16 → upper_part i u + lower_part i v < 16
