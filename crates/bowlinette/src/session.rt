@@ -37,7 +37,14 @@ fn record_of(s: Session) -> [u8; 19]
 pub fn bowlinette_begin(s: &mut [u8; 19], book: &[u8]) -> u32
     ensures { (result, s.new) ≡ into (recorded (D.begin_answer book.now)) s.old }
 {
-    deliver(driver::session::begin(book).map(record_of), s)
+    match driver::session::begin(book) {
+        Ok(fresh) => {
+            let record = record_of(fresh);
+            *s = record;
+            0
+        }
+        Err(why) => why.into(),
+    }
 }
 
 // A block call on the session in a record.
