@@ -1,5 +1,5 @@
-// A session lent for one call: it stands in a local, which is lent by &mut to a call of `lent`, and
-// what the call left there is handed back. The answers are those of the calls by value.
+// A session lent for one call: it stands in a local, which is lent by &mut to a call of `lent`, and what
+// the call left there is handed back, unless it refused. The answers are those of the calls by value.
 ghost use Rattle.std.specs.Prelude.{◌≡◌};
 ghost use Rattle.driver.specs.Driver as D;
 

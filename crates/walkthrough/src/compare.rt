@@ -1,9 +1,13 @@
 // How an opened message differs from the pad's ink file, block by block, for people to see.
+ghost use Rattle.std.specs.Prelude.{◌≤◌, length};
+
 use cipher::lengths;
 use std::io;
 
 // In how many places two files, or two blocks, have different bytes.
-fn differ(a: &[u8], b: &[u8]) -> usize {
+fn differ(a: &[u8], b: &[u8]) -> usize
+    ensures { result ≤ length a.now }
+{
     a.iter().zip(b).filter(|(x, y)| x != y).count()
 }
 
