@@ -5,7 +5,7 @@ use std::ptr;
 
 use crate::system;
 
-/// The stack that a call of the library may have used, and more: the largest uses under 9 KiB.
+/// The stack that a call of the library may have used, and more: the largest uses under 13 KiB.
 const STACK: usize = 16 * 1024;
 
 /// A huge page.

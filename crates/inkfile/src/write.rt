@@ -32,8 +32,8 @@ fn head(kind: u8, n: usize) -> [u8; 6]
     [layout::MARK, kind, b[0], b[1], b[2], b[3]]
 }
 
-// Bytes copied into a buffer of their length. By a loop: copy_from_slice from one lent slice to another calls memmove,
-// which a C program would have to bring.
+// Bytes copied into a buffer of their length. By a loop: copy_from_slice from one lent slice to another, of any length,
+// calls memmove, which a program without a C library would have to bring.
 fn put(out: &mut [u8], bytes: &[u8])
     requires { length out.old ≡ length bytes.now }
     ensures { out.new ≡ bytes.now }
